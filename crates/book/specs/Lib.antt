@@ -1,0 +1,5 @@
+pub mod Commands
+pub mod Numbers
+pub mod Reading
+pub mod Walks
+pub mod Writing
