@@ -76,6 +76,12 @@ module _ (book : List ℕ) where
   inside-from-some place item some =
       ⊎-elim (λ inside. inside) (λ past. let none = next-past place past in let no : _≡_ {A = ℕ} 0 1 = cc in omega arith) (cases-lt place (length book))
 
+  -- with each item less of the book is left
+  pub next-falls : (place : ℕ) (item : Item) → next book place ≡ Some item → length book - onward book place < length book - place
+  next-falls place item some =
+      let inside = inside-from-some place item some in
+      omega (arith, onward-bounds place inside)
+
   walks : (fuel place : ℕ) → length book ≤ place + fuel → (items : List Item) × Walk book place items
   walks zero place h = ([], ends (next-past place (omega arith)))
   walks (suc fuel) place h =

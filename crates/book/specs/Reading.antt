@@ -44,10 +44,13 @@ abbrev pub onward : List ℕ → ℕ → ℕ
 onward book place = cond (ltb place (length book)) (behind place (length book) (decoded (drop place book))) place
 
 -- the answer of the code's reader, with what its command says
+abbrev pub item-of : Result Entry Fault → Item
+item-of (Ok e) = Ok (record { offset = e .offset; instruction = said (e .command) })
+item-of (Err f) = Err f
+
 abbrev pub told : Option (Result Entry Fault) → Option Item
 told None = None
-told (Some (Ok e)) = Some (Ok (record { offset = e .offset; instruction = said (e .command) }))
-told (Some (Err f)) = Some (Err f)
+told (Some r) = Some (item-of r)
 
 -- the book that a reader walks, and its place in it
 abbrev pub book-of : Reader → List ℕ
@@ -60,3 +63,9 @@ place-of r = r .place
 abbrev pub Opened : List ℕ → Result Reader Fault → Type 0
 Opened book (Ok r) = (length book ≤ 4096) × (book-of r ≡ book) × (place-of r ≡ 0)
 Opened book (Err f) = (4096 < length book) × (f ≡ record { cause = TooLong; offset = 0 })
+
+-- One step of a reader: it tells the next item, and goes on behind it in the same book.
+pub record Stepped (before : Reader) (r : Option (Result Entry Fault)) (after : Reader) : Type 0 where
+  pub item : told r ≡ next (book-of before) (place-of before)
+  pub place : place-of after ≡ onward (book-of before) (place-of before)
+  pub book : book-of after ≡ book-of before

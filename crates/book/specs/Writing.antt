@@ -67,8 +67,11 @@ unwritten-number NameLength = 6
 unwritten-number TooShort = 30
 
 -- An instruction was written at a place of a buffer, or refused: the answer; the buffer, changed at the command's
--- bytes alone, or as it was after a refusal; and what was written is read back from its place.
+-- bytes alone, or as it was after a refusal.
 pub record Wrote (old : List ℕ) (place : ℕ) (i : Instruction) (r : Result ℕ Unwritten) (new : List ℕ) : Type 0 where
   pub answer : r ≡ written (length old) place i
   pub after : new ≡ cond (isOk r) (overwritten old place (spelled i)) old
-  pub back : isOk r ≡ true → decoded (drop place new) ≡ Ok i
+
+-- What was written is read back from its place, whatever stands behind it.
+abbrev pub Reads-back : ℕ → Instruction → Result ℕ Unwritten → List ℕ → Type 0
+Reads-back place i r new = isOk r ≡ true → decoded (drop place new) ≡ Ok i

@@ -1,6 +1,7 @@
 ghost use mathlib.Core.Path.{_≡_};
-ghost use Rattle.book.specs.Reading.{next, onward, told, book-of, place-of, Opened};
-ghost use Rattle.book.specs.Walks.{Walkable};
+ghost use Prim.Native.Nat.{_≤_};
+ghost use lib.ListN.{length, drop};
+ghost use Rattle.book.specs.Reading.{Opened, Stepped};
 use crate::commands::Command;
 use crate::commands::CommandDebug;
 use crate::decoding::decode;
@@ -24,10 +25,17 @@ pub struct Reader<'a> {
     place: usize,
 }
 
+// What a book holds from a place on.
+fn rest_of(book: &[u8], place: usize) -> &[u8]
+    requires { ⌜ place ≤ length (now book) ⌝ }
+    ensures { λ r. ⌜ now r ≡ drop place (now (book .entry)) ⌝ }
+{
+    &book[place..]
+}
+
 impl<'a> Reader<'a> {
     pub fn new(book: &'a [u8]) -> Result<Reader<'a>, Fault>
-        ensures opened { λ r. ⌜ Opened (now (book .entry)) r ⌝ }
-        ensures walked { λ _. ⌜ Walkable (now (book .entry)) ⌝ }
+        ensures { λ r. ⌜ Opened (now (book .entry)) r ⌝ }
     {
         if book.len() > BOOK_LIMIT {
             return Err(Fault {
@@ -40,16 +48,14 @@ impl<'a> Reader<'a> {
 
     // The next command or fault, or nothing at the book's end. After a fault the rest of the book is dropped.
     pub fn read_next(&mut self) -> Option<Result<Entry<'a>, Fault>>
-        ensures item { λ r. ⌜ told r ≡ next (book-of (now (self .entry))) (place-of (now (self .entry))) ⌝ }
-        ensures place { λ _. ⌜ place-of (now (self .exit)) ≡ onward (book-of (now (self .entry))) (place-of (now (self .entry))) ⌝ }
-        ensures book { λ _. ⌜ book-of (now (self .exit)) ≡ book-of (now (self .entry)) ⌝ }
+        ensures { λ r. ⌜ Stepped (now (self .entry)) r (now (self .exit)) ⌝ }
     {
         let book = self.book;
         let offset = self.place;
         if offset >= book.len() {
             return None;
         }
-        match decode(&book[offset..]) {
+        match decode(rest_of(book, offset)) {
             Ok(command) => {
                 self.place = offset + command.width();
                 Some(Ok(Entry { offset, command }))

@@ -1,6 +1,6 @@
 ghost use mathlib.Core.Path.{_≡_};
 ghost use Rattle.book.specs.Commands.{said, addStep};
-ghost use Rattle.book.specs.Writing.{Overwrote, Wrote, unwritten-number};
+ghost use Rattle.book.specs.Writing.{Overwrote, Wrote, Reads-back, unwritten-number};
 use crate::commands::Command;
 
 // Why a command was not written.
@@ -37,6 +37,13 @@ fn put(buffer: &mut [u8], at: usize, bytes: &[u8]) -> Result<usize, Unwritten>
 
 // Writes the command over the bytes from `at` on and tells the place behind it.
 pub fn encode(command: &Command, buffer: &mut [u8], at: usize) -> Result<usize, Unwritten>
+    ensures wrote { λ r. ⌜ Wrote (now (buffer .entry)) at (said (now (command .entry))) r (now (buffer .exit)) ⌝ }
+    ensures back { λ r. ⌜ Reads-back at (said (now (command .entry))) r (now (buffer .exit)) ⌝ }
+{
+    put_command(command, buffer, at)
+}
+
+fn put_command(command: &Command, buffer: &mut [u8], at: usize) -> Result<usize, Unwritten>
     ensures { λ r. ⌜ Wrote (now (buffer .entry)) at (said (now (command .entry))) r (now (buffer .exit)) ⌝ }
 {
     match *command {
