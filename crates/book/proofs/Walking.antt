@@ -15,9 +15,12 @@ use Rattle.std.specs.declared.option.Option.the-variants.{Some, None}
 use Rattle.std.specs.declared.result.Result.{Result}
 use Rattle.std.specs.declared.result.Result.the-variants.{Ok, Err}
 use Rattle.book.specs.Commands.{Instruction, addStep, removeStep, setDuration, putAfter, putWithin, putAt, removeRule, setPeriod, setSpan, setVessels, width, whole, opened-by, decoded}
-use Rattle.book.specs.Reading.{Item, placed, behind, next, onward}
-use Rattle.book.specs.Walks.{Walk, ends, tells, read, dropped, Walkable}
+use Rattle.book.specs.Reading.{Item, item-of, placed, behind, next, onward, book-of, place-of, Stepped}
+use Rattle.book.specs.Walks.{Walk, ends, tells, followed-by, items-from, items, read, dropped, Walkable}
 use Rattle.book.specs.declared.faults.Cause.{Cause}
+use Rattle.book.specs.declared.faults.Fault.{Fault}
+use Rattle.book.specs.declared.reading.Entry.{Entry}
+use Rattle.book.specs.declared.reading.Reader.{Reader}
 
 width-some : (i : Instruction) → 0 < width i
 width-some (addStep step duration kind name) = omega arith
@@ -77,17 +80,20 @@ module _ (book : List ℕ) where
       ⊎-elim (λ inside. inside) (λ past. let none = next-past place past in let no : _≡_ {A = ℕ} 0 1 = cc in omega arith) (cases-lt place (length book))
 
   -- with each item less of the book is left
-  pub next-falls : (place : ℕ) (item : Item) → next book place ≡ Some item → length book - onward book place < length book - place
+  next-falls : (place : ℕ) (item : Item) → next book place ≡ Some item → length book - onward book place < length book - place
   next-falls place item some =
       let inside = inside-from-some place item some in
       omega (arith, onward-bounds place inside)
 
-  walks : (fuel place : ℕ) → length book ≤ place + fuel → (items : List Item) × Walk book place items
-  walks zero place h = ([], ends (next-past place (omega arith)))
+  walks : (fuel place : ℕ) → length book ≤ place + fuel → Walk book place (items-from fuel book place)
+  walks zero place h = ends (next-past place (omega arith))
   walks (suc fuel) place h =
       ⊎-elim
-      (λ inside. let more = walks fuel (onward book place) (omega (arith, onward-bounds place inside .0)) in (_ ∷ more .0, tells (next-inside place inside) (more .1)))
-      (λ past. ([], ends (next-past place past)))
+      (λ inside.
+          let some = next-inside place inside in
+          let more = walks fuel (onward book place) (omega (arith, onward-bounds place inside .0)) in
+          subst (λ o. Walk book place (followed-by o (items-from fuel book (onward book place)))) (sym some) (tells some more))
+      (λ past. let none = next-past place past in subst (λ o. Walk book place (followed-by o (items-from fuel book (onward book place)))) (sym none) (ends none))
       (cases-lt place (length book))
 
   pub one-way : {place : ℕ} {xs ys : List Item} → Walk book place xs → Walk book place ys → xs ≡ ys
@@ -111,7 +117,24 @@ module _ (book : List ℕ) where
       subst (λ x. place + (read (x ∷ items) + dropped book (x ∷ items)) ≡ length book) is
       (counted place items _ inside (subst (λ n. n + (read items + dropped book items) ≡ length book) (onward-inside place inside) rest))
 
+  pub items-walk : Walk book 0 (items book)
+  unfolding items
+  items-walk = walks (length book) 0 (omega arith)
+
   pub walkable : Walkable book
-  walkable =
-      let found = walks (length book) 0 (omega arith) in
-      record { items = found .0; walk = found .1; only = λ others w. one-way w (found .1); no-loss = omega (arith, no-loss-from (found .1) (omega arith)) }
+  walkable = record { walk = items-walk; only = λ others w. one-way w items-walk; no-loss = omega (arith, no-loss-from items-walk (omega arith)) }
+
+  -- what a walk tells at a place is what stands there
+  pub walk-next : {place : ℕ} {xs : List Item} (item : Item) → Walk book place xs → next book place ≡ Some item → (ys : List Item) × (xs ≡ item ∷ ys) × Walk book (onward book place) ys
+  walk-next item (ends none) some = let no : _≡_ {A = ℕ} 0 1 = cc in absurd (omega arith)
+  walk-next item (tells {item = x} {items = xs} is w) some = let same : x ≡ item = cc in (xs, λ i. same i ∷ xs, w)
+
+  pub walk-ends : {place : ℕ} {xs : List Item} → Walk book place xs → next book place ≡ None → xs ≡ []
+  walk-ends (ends none) e = refl
+  walk-ends (tells some w) e = let no : _≡_ {A = ℕ} 0 1 = cc in absurd (omega arith)
+
+-- with each item that a reader tells, less of its book is left
+pub falls : {reader further : Reader} {item : Result Entry Fault} → Stepped reader (Some item) further → length (book-of further) - place-of further < length (book-of reader) - place-of reader
+falls {reader} {further} {item} step =
+    subst (λ b. length b - place-of further < length (book-of reader) - place-of reader) (sym (step .book))
+    (subst (λ p. length (book-of reader) - p < length (book-of reader) - place-of reader) (sym (step .place)) (next-falls (book-of reader) (place-of reader) (item-of item) (sym (step .item))))

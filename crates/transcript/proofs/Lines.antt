@@ -1,15 +1,14 @@
 -- The lines of a walk, one after another. Assumes nothing.
 use mathlib.Core.List.{List, [], _∷_, _++_, append-nil, append-assoc}
 use mathlib.Core.Path.{_≡_, refl, sym, ap, subst, _∙_}
-use Prim.Native.Nat.{ℕ, _-_, _<_}
+use Prim.Native.Nat.{ℕ}
 use native.Mathlib.Omega.{arith}
-use lib.ListN.{length}
 use Rattle.std.proofs.shelf.Lists.{joined-more}
 use Rattle.std.specs.Joined.{joined}
 use Rattle.std.specs.declared.option.Option.the-variants.{Some, None}
 use Rattle.std.specs.declared.result.Result.{Result}
 use Rattle.std.specs.declared.result.Result.the-variants.{Ok, Err}
-use Rattle.book.proofs.Walking.{next-falls, one-way}
+use Rattle.book.proofs.Walking.{one-way}
 use Rattle.book.specs.Reading.{Item, item-of, next, onward, book-of, place-of, Opened, Stepped}
 use Rattle.book.specs.Walks.{Walk, ends, tells}
 use Rattle.book.specs.declared.faults.Fault.{Fault}
@@ -47,11 +46,6 @@ module _ {before : List ℕ} where
     walk = subst (Walk book start) (append-nil (old .seen)) (old .walk [] (ends (subst (λ b. next b (place-of reader) ≡ None) same (sym (step .item)))));
     lines = old .lines;
   }
-
-pub falls : {reader further : Reader} {item : Result Entry Fault} → Stepped reader (Some item) further → length (book-of further) - place-of further < length (book-of reader) - place-of reader
-falls {reader} {further} {item} step =
-    subst (λ b. length b - place-of further < length (book-of reader) - place-of reader) (sym (step .book))
-    (subst (λ p. length (book-of reader) - p < length (book-of reader) - place-of reader) (sym (step .place)) (next-falls (book-of reader) (place-of reader) (item-of item) (sym (step .item))))
 
 -- a book was opened, and its lines added
 pub opened-extends : {before book after : List ℕ} (reader : Reader) → Opened book (Ok reader) → Continued before (book-of reader) (place-of reader) after → Extended before book after

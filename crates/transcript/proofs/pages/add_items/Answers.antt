@@ -1,6 +1,7 @@
 use mathlib.Core.Path.{_∙_}
+use Rattle.book.proofs.Walking.{falls}
 use Rattle.std.specs.Of.String.{string-bytes}
-use Rattle.transcript.proofs.Lines.{one-more, no-more, falls}
+use Rattle.transcript.proofs.Lines.{one-more, no-more}
 use Rattle.transcript.proofs.pages.add_items.Needs as need
 
 pub loop-item-less : need.loop-item-less

@@ -1,0 +1,10 @@
+pub mod Orders
+pub mod LinkLaws
+pub mod RunLaws
+pub mod Potentials
+pub mod Unique
+pub mod LoopLaws
+pub mod Periods
+pub mod Short
+pub mod Small
+pub mod CodeLaws
