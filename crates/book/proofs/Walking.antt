@@ -90,9 +90,9 @@ module _ (book : List ℕ) where
   walks (suc fuel) place h =
       ⊎-elim
       (λ inside.
-          let some = next-inside place inside in
-          let more = walks fuel (onward book place) (omega (arith, onward-bounds place inside .0)) in
-          subst (λ o. Walk book place (followed-by o (items-from fuel book (onward book place)))) (sym some) (tells some more))
+      let some = next-inside place inside in
+      let more = walks fuel (onward book place) (omega (arith, onward-bounds place inside .0)) in
+      subst (λ o. Walk book place (followed-by o (items-from fuel book (onward book place)))) (sym some) (tells some more))
       (λ past. let none = next-past place past in subst (λ o. Walk book place (followed-by o (items-from fuel book (onward book place)))) (sym none) (ends none))
       (cases-lt place (length book))
 

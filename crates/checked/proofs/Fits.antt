@@ -1,29 +1,20 @@
 -- A full sheet keeps every limit exactly if each of its tables does. Assumes nothing.
 use mathlib.Core.List.{List}
 use mathlib.Core.Logic.{⊎-elim}
-use mathlib.Core.Path.{_≡_, refl, sym, ap, _∙_, subst}
+use mathlib.Core.Path.{_≡_, sym, _∙_, subst}
 use Prim.Native.Nat.{ℕ, zero, suc, _≤_}
 use native.Mathlib.Omega.{arith}
 use lib.ListN.{length, getD}
-use Rattle.std.specs.Options.{isSome, mapped}
-use Rattle.std.specs.declared.option.Option.{Option}
-use Rattle.std.specs.declared.option.Option.the-variants.{Some, None}
+use Rattle.std.specs.Options.{mapped}
+use Rattle.std.specs.declared.option.Option.the-variants.{None}
 use Rattle.sheet.specs.declared.forms.Rule.the-variants.{Free}
 use Rattle.sheet.specs.declared.forms.Sheet.{Sheet}
-use Rattle.sheet.specs.declared.forms.Step.{Step}
-use Rattle.sheet.specs.Sheets.{numbered, has-step, rule-sheet, without-name}
+use Rattle.sheet.specs.Sheets.{numbered, without-name}
 use Rattle.sheet.specs.Limits.{From, StepFits, FullSound}
 use Rattle.sheet.proofs.Numbered.{told-step}
 use Rattle.std.proofs.shelf.Lists.{getD-past, length-map}
 use Rattle.std.proofs.shelf.Tests.{cases-lt}
 use Rattle.checked.specs.Kept.{StepKept, RuleKept, CountKept, EachOf}
-
-some-mapped : (o : Option Step) → isSome (mapped without-name o) ≡ isSome o
-some-mapped None = refl
-some-mapped (Some step) = refl
-
-pub some-told : (sheet : Sheet) (n : ℕ) → has-step (rule-sheet sheet) n ≡ isSome (numbered None (sheet .steps) n)
-some-told sheet n = ap isSome (told-step sheet n) ∙ some-mapped (numbered None (sheet .steps) n)
 
 -- what holds of none and of each entry of a table holds for every number
 each-numbered : {X : Type 0} (count : ℕ) (none : X) (P : X → Type 0) (xs : List X) → P none → length xs ≡ count

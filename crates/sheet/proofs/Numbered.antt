@@ -7,10 +7,12 @@ use native.Mathlib.Omega.{arith}
 use lib.ListN.{length, getD, set}
 use Rattle.std.proofs.shelf.Lists.{getD-past, set-past, set-getD, getD-set-same, getD-set-other, length-set}
 use Rattle.std.proofs.shelf.Tests.{cases-lt}
-use Rattle.std.specs.Options.{mapped}
-use Rattle.std.specs.declared.option.Option.the-variants.{None}
+use Rattle.std.specs.Options.{isSome, mapped}
+use Rattle.std.specs.declared.option.Option.{Option}
+use Rattle.std.specs.declared.option.Option.the-variants.{Some, None}
 use Rattle.sheet.specs.declared.forms.Sheet.{Sheet}
-use Rattle.sheet.specs.Sheets.{numbered, step-at, rule-sheet, without-name}
+use Rattle.sheet.specs.declared.forms.Step.{Step}
+use Rattle.sheet.specs.Sheets.{numbered, step-at, has-step, rule-sheet, without-name}
 use Rattle.sheet.specs.Edits.{replaced}
 
 module _ {X : Type 0} (none : X) (xs : List X) where
@@ -73,3 +75,11 @@ numbered-map f none xs (suc n) = getD-map-default f none xs n
 -- what a source over a full sheet tells of a step
 pub told-step : (sheet : Sheet) (n : ℕ) → step-at (rule-sheet sheet) n ≡ mapped without-name (numbered None (sheet .steps) n)
 told-step sheet n = numbered-map (mapped without-name) None (sheet .steps) n
+
+some-mapped : (o : Option Step) → isSome (mapped without-name o) ≡ isSome o
+some-mapped None = refl
+some-mapped (Some step) = refl
+
+-- and whether it tells one
+pub told-some : (sheet : Sheet) (n : ℕ) → has-step (rule-sheet sheet) n ≡ isSome (numbered None (sheet .steps) n)
+told-some sheet n = ap isSome (told-step sheet n) ∙ some-mapped (numbered None (sheet .steps) n)

@@ -1,0 +1,5 @@
+pub mod Checks
+pub mod Finding
+pub mod Marking
+pub mod Printing
+pub mod Progress

@@ -1,0 +1,1 @@
+// What each command changes on a sheet.
