@@ -1,0 +1,4 @@
+pub mod Laws
+pub mod Cells
+pub mod Positions
+pub mod Runs

@@ -1,0 +1,3 @@
+pub mod Measures
+pub mod Weighing
+pub mod Next
