@@ -74,9 +74,24 @@ fn print_card(rt: &LibcRuntime, name: &str) -> Result<(), AnyError> {
         }
     }
     print_waits(rt, &card)?;
-    print_waits(rt, &OtherPeriod { below: &card, period: 19 })?;
-    let freer = LeftOut { below: &card, number: 3 };
-    print_waits(rt, &OtherPeriod { below: &freer, period: 20 })?;
+    print_waits(
+        rt,
+        &OtherPeriod {
+            below: &card,
+            period: 19,
+        },
+    )?;
+    let freer = LeftOut {
+        below: &card,
+        number: 3,
+    };
+    print_waits(
+        rt,
+        &OtherPeriod {
+            below: &freer,
+            period: 20,
+        },
+    )?;
     Ok(())
 }
 
