@@ -51,7 +51,7 @@ module _ {E : Type 0} (neutral : E) where
       -- each position at most doubles the number of links
       pub short : Short within n (2 ^ (k + 1)) ys
 
-    -- All n positions are processed, or all below the first whose entry to itself beats the neutral one.
+    -- All n positions are processed, or those below one whose entry to itself beats the neutral one.
     abbrev pub Closing : (within : ℕ → E → Type 0) → ℕ → List E → List E → Option ℕ → Type 0
     Closing within n xs ys None = ClosedTo within n n xs ys
     Closing within n xs ys (Some k) =

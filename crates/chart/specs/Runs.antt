@@ -86,7 +86,7 @@ module _ {E : Type 0} (neutral : E) (sum : E → E → E) (value : ℕ → Link 
       pub places : IsPlaces s p
       pub worked : Worked s p (p .count) ys
 
-    -- The positions below k are processed, and k is the first whose entry to itself beats the neutral one.
+    -- The positions below k are processed, and the entry of k to itself beats the neutral one: some closed run does.
     pub record StopsAt (s : RuleSheet) (xs ys : List E) (p : Places) (k : ℕ) : Type 0 where
       pub room : 1024 ≤ length xs
       pub places : IsPlaces s p

@@ -84,8 +84,8 @@ pub fn turns_up<E: Entry>(cells: &[E], position: usize) -> bool
     get(cells, position, position).beats(E::zero())
 }
 
-// Closes the chart position by position. Answers the first position whose entry to itself beats the neutral one, and
-// processes neither it nor those after it.
+// Closes the chart position by position. It stops at a position whose entry to itself beats the neutral one, processes
+// neither it nor those after it, and answers it.
 pub fn close<E: Entry>(cells: &mut [E], count: usize) -> Option<usize>
     requires { ⌜ 1024 ≤ length (now cells) ⌝ ∗ ⌜ count ≤ 32 ⌝ }
     requires { ⌜ ClosedTo neutral sum under within count 0 (now cells) (now cells) ⌝ }

@@ -1,0 +1,5 @@
+pub mod Bounds
+pub mod Calmest
+pub mod Choosing
+pub mod Classes
+pub mod Views
