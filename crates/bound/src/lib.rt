@@ -4,9 +4,13 @@ ghost use mathlib.Core.Path.{_≡_};
 ghost use Prim.Native.Nat.{_≤_};
 ghost use lib.ListN.{length};
 ghost use Rattle.loops.specs.Loops.{LoopWritten};
-ghost use Rattle.sheet.specs.Layers.{at-period};
+ghost use Rattle.chart.specs.Runs.{WorkedOut};
+ghost use Rattle.kinds.specs.Alone.{no-hours, hours-sum, HoursUnder, AloneWithin, link-hours};
+ghost use Rattle.sheet.specs.Layers.{at-period, other-period};
 ghost use Rattle.sheet.specs.Waits.{IsBound};
 ghost use Rattle.bound.specs.Bounds.{refusal-number, Works, Fails, Blocked, Least, Room, Bounded};
+use chart::Places;
+use chart::Stop;
 use chart::work_out;
 use kinds::Counted;
 use kinds::Hours;
@@ -40,17 +44,24 @@ impl BoundRefusal {
     }
 }
 
+// The working chart at another period.
+fn work_at<S: Source>(source: &S, period: u16, hours: &mut [Hours]) -> Result<Places, Stop>
+    ensures { λ r. ⌜ WorkedOut no-hours hours-sum link-hours HoursUnder AloneWithin (other-period (S·Source .sheet (now (source .entry))) period .told) (now (hours .entry)) (now (hours .exit)) r ⌝ }
+{
+    let other = OtherPeriod {
+        below: source,
+        period,
+    };
+    work_out(&other, hours)
+}
+
 // Whether there is a lawful timetable at a period.
 fn works_at<S: Source>(source: &S, period: u16, hours: &mut [Hours]) -> bool
     requires { ⌜ 1024 ≤ length (now hours) ⌝ ∗ ⌜ 1 ≤ period ⌝ ∗ ⌜ period ≤ 999 ⌝ }
     ensures yes { λ r. ⌜ (r ≡ true → Works (S·Source .sheet (now (source .entry)) .told) period) ⌝ }
     ensures no { λ r. ⌜ (r ≡ false → Blocked (S·Source .sheet (now (source .entry)) .told) period) ⌝ }
 {
-    let other = OtherPeriod {
-        below: source,
-        period,
-    };
-    work_out(&other, hours).is_ok()
+    work_at(source, period, hours).is_ok()
 }
 
 // The least period with a lawful timetable, where there is one at the longest.

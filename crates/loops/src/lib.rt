@@ -1,8 +1,8 @@
 // The loop behind a refusal: closes a working chart of hours with links, and from the place at which that stops walks
 // along links that account for the entry exactly. The count of links falls with each, so no place is met twice.
 ghost use mathlib.Core.Path.{_≡_};
-ghost use Prim.Native.Nat.{_≤_};
-ghost use lib.ListN.{length};
+ghost use Prim.Native.Nat.{_≤_, _<_};
+ghost use lib.ListN.{length, set};
 ghost use Rattle.loops.specs.Loops.{LoopWritten, Searched};
 ghost use Rattle.loops.specs.Steps.{Stopped};
 
@@ -26,6 +26,13 @@ pub enum Sought {
     Found { count: usize },
 }
 
+fn put_code(codes: &mut [u16], count: usize, code: u16)
+    requires { ⌜ count < length (now codes) ⌝ }
+    ensures { λ _. ⌜ now (codes .exit) ≡ set (now (codes .entry)) count code ⌝ }
+{
+    codes[count] = code;
+}
+
 // Writes the codes of a loop through the place at which the chart stopped, and tells their number.
 fn write_loop<S: Source>(
     source: &S,
@@ -41,7 +48,7 @@ fn write_loop<S: Source>(
     let mut count = 0;
     loop {
         let link = next_link(source, places, cells, stop, here);
-        codes[count] = link.code;
+        put_code(codes, count, link.code);
         count += 1;
         here = places.positions[link.to as usize] as usize;
         if here == stop {

@@ -12,8 +12,8 @@ returns g c =
     let same = as-it-is hours (c .pre .1 .0) (c .pre .1 .1) in
     let told = sym (c .is-ok .ensures .value) in
     record {
-      yes = λ ok. subst (Works (sheet .told)) same (worked-works other (c .args .hours .now) (c .work-out .last .cells) (c .pre .0) (c .work-out .result) (c .work-out .ensures) (told ∙ ok));
+      yes = λ ok. subst (Works (sheet .told)) same (worked-works other (c .args .hours .now) (c .work-at .last .hours) (c .pre .0) (c .work-at .result) (c .work-at .ensures) (told ∙ ok));
       no = λ fails.
           blocked-back (sheet .told) hours
-          (subst (λ p. Blocked (at-period (sheet .told) p) p) same (worked-blocked other (c .args .hours .now) (c .work-out .last .cells) (c .pre .0) (c .work-out .result) (c .work-out .ensures) (told ∙ fails)));
+          (subst (λ p. Blocked (at-period (sheet .told) p) p) same (worked-blocked other (c .args .hours .now) (c .work-at .last .hours) (c .pre .0) (c .work-at .result) (c .work-at .ensures) (told ∙ fails)));
     }
