@@ -30,14 +30,14 @@ fn name_fits(name: &[u8]) -> bool
 }
 
 // Which steps a card has brought so far, by their numbers.
-pub fn is_marked(marks: &[bool; 32], step: u8) -> bool
+pub(crate) fn is_marked(marks: &[bool; 32], step: u8) -> bool
     ensures { λ r. ⌜ r ≡ marked (now (marks .entry)) step ⌝ }
 {
     step < 32 && marks[step as usize]
 }
 
 // Whether the command puts something on a sheet with these steps, and keeps every limit.
-pub fn fits(marks: &[bool; 32], command: &Command) -> bool
+pub(crate) fn fits(marks: &[bool; 32], command: &Command) -> bool
     ensures { λ r. ⌜ r ≡ in-limits (marked (now (marks .entry))) (said (now (command .entry))) ⌝ }
 {
     match *command {
@@ -81,7 +81,7 @@ pub fn fits(marks: &[bool; 32], command: &Command) -> bool
 }
 
 // Marks the step that the command adds, if it adds one.
-pub fn mark(marks: &mut [bool; 32], command: &Command)
+pub(crate) fn mark(marks: &mut [bool; 32], command: &Command)
     ensures { λ _. ⌜ now (marks .exit) ≡ marks-after (now (marks .entry)) (said (now (command .entry))) ⌝ }
 {
     if let Command::AddStep { step, .. } = *command {

@@ -102,7 +102,7 @@ fn find_in<'a>(reader: &mut Reader<'a>, step: u8, rule: u8) -> Found<'a>
 }
 
 // What a card without a fault tells of a step and a rule.
-pub fn find<'a>(card: &'a [u8], step: u8, rule: u8) -> Found<'a>
+pub(crate) fn find<'a>(card: &'a [u8], step: u8, rule: u8) -> Found<'a>
     ensures { λ r. ⌜ Finds-on (now (card .entry)) step rule (answers-of r) ⌝ }
 {
     match Reader::new(card) {

@@ -22,7 +22,7 @@ fn rises(last: Option<u8>, number: u8) -> bool
 }
 
 // The stage after a command, or nothing where the command is out of place.
-pub fn stage_after(stage: Stage, command: &Command) -> Option<Stage>
+pub(crate) fn stage_after(stage: Stage, command: &Command) -> Option<Stage>
     ensures { λ r. ⌜ r ≡ place-after stage (subject (said (now (command .entry)))) ⌝ }
 {
     match (stage, *command) {

@@ -9,21 +9,21 @@ ghost use Rattle.chart.specs.Laws.{limit};
 ghost use Rattle.chart.specs.Cells.{at, Short, RaisedAt, RowTo, StageTo, ClosedTo, Closing};
 use super::entry::Entry;
 
-pub fn get<E: Entry>(cells: &[E], row: usize, column: usize) -> E
+pub(crate) fn get<E: Entry>(cells: &[E], row: usize, column: usize) -> E
     requires { ⌜ 1024 ≤ length (now cells) ⌝ ∗ ⌜ row < 32 ⌝ ∗ ⌜ column < 32 ⌝ }
     ensures { λ r. ⌜ r ≡ at neutral (now (cells .entry)) row column ⌝ }
 {
     cells[32 * row + column]
 }
 
-pub fn put<E: Entry>(cells: &mut [E], row: usize, column: usize, entry: E)
+pub(crate) fn put<E: Entry>(cells: &mut [E], row: usize, column: usize, entry: E)
     requires { ⌜ 1024 ≤ length (now cells) ⌝ ∗ ⌜ row < 32 ⌝ ∗ ⌜ column < 32 ⌝ }
     ensures { λ _. ⌜ now (cells .exit) ≡ set (now (cells .entry)) (32 * row + column) entry ⌝ }
 {
     cells[32 * row + column] = entry;
 }
 
-pub fn raise<E: Entry>(cells: &mut [E], row: usize, column: usize, by: E)
+pub(crate) fn raise<E: Entry>(cells: &mut [E], row: usize, column: usize, by: E)
     requires { ⌜ 1024 ≤ length (now cells) ⌝ ∗ ⌜ row < 32 ⌝ ∗ ⌜ column < 32 ⌝ }
     ensures { λ _. ⌜ RaisedAt neutral under row column by (now (cells .entry)) (now (cells .exit)) ⌝ }
 {
@@ -33,7 +33,7 @@ pub fn raise<E: Entry>(cells: &mut [E], row: usize, column: usize, by: E)
 }
 
 // Raises a cell by the way over position `by`, of which `to` is the first part.
-pub fn relax<E: Entry>(cells: &mut [E], row: usize, by: usize, column: usize, to: E)
+pub(crate) fn relax<E: Entry>(cells: &mut [E], row: usize, by: usize, column: usize, to: E)
     requires { ⌜ 1024 ≤ length (now cells) ⌝ ∗ ⌜ row < 32 ⌝ ∗ ⌜ by < 32 ⌝ ∗ ⌜ column < 32 ⌝ }
     requires { ⌜ within limit to ⌝ ∗ ⌜ within limit (at neutral (now cells) by column) ⌝ }
     ensures { λ _. ⌜ RaisedAt neutral under row column (sum to (at neutral (now (cells .entry)) by column)) (now (cells .entry)) (now (cells .exit)) ⌝ }
@@ -43,7 +43,7 @@ pub fn relax<E: Entry>(cells: &mut [E], row: usize, by: usize, column: usize, to
 }
 
 // Raises the cells of a row by the way over position `by`.
-pub fn raise_row<E: Entry>(cells: &mut [E], row: usize, by: usize, count: usize)
+pub(crate) fn raise_row<E: Entry>(cells: &mut [E], row: usize, by: usize, count: usize)
     requires { ⌜ 1024 ≤ length (now cells) ⌝ ∗ ⌜ row < count ⌝ ∗ ⌜ by < count ⌝ ∗ ⌜ count ≤ 32 ⌝ }
     requires { ⌜ within limit (at neutral (now cells) row by) ⌝ ∗ ⌜ ((b : ℕ) → b < count → within limit (at neutral (now cells) by b)) ⌝ }
     ensures { λ _. ⌜ RowTo neutral sum under row by count (now (cells .entry)) (now (cells .exit)) ⌝ }
@@ -55,7 +55,7 @@ pub fn raise_row<E: Entry>(cells: &mut [E], row: usize, by: usize, count: usize)
 }
 
 // Raises every cell by the way over position `by`. Its own entry is neutral, so that its row and its column stay.
-pub fn stage<E: Entry>(cells: &mut [E], by: usize, count: usize)
+pub(crate) fn stage<E: Entry>(cells: &mut [E], by: usize, count: usize)
     requires { ⌜ 1024 ≤ length (now cells) ⌝ ∗ ⌜ by < count ⌝ ∗ ⌜ count ≤ 32 ⌝ }
     requires { ⌜ at neutral (now cells) by by ≡ neutral ⌝ ∗ ⌜ Short neutral within count limit (now cells) ⌝ }
     ensures { λ _. ⌜ StageTo neutral sum under by count count (now (cells .entry)) (now (cells .exit)) ⌝ }
@@ -66,7 +66,7 @@ pub fn stage<E: Entry>(cells: &mut [E], by: usize, count: usize)
 }
 
 // Processes position `by`, whose entry to itself does not beat the neutral one.
-pub fn process<E: Entry>(cells: &mut [E], by: usize, count: usize)
+pub(crate) fn process<E: Entry>(cells: &mut [E], by: usize, count: usize)
     requires { ⌜ 1024 ≤ length (now cells) ⌝ ∗ ⌜ by < count ⌝ ∗ ⌜ count ≤ 32 ⌝ }
     requires { ⌜ under (at neutral (now cells) by by) neutral ⌝ ∗ ⌜ under neutral (at neutral (now cells) by by) ⌝ }
     requires { ⌜ Short neutral within count (2 ^ (by + 1)) (now cells) ⌝ }
@@ -76,7 +76,7 @@ pub fn process<E: Entry>(cells: &mut [E], by: usize, count: usize)
 }
 
 // Whether the entry of a position to itself beats the neutral one.
-pub fn turns_up<E: Entry>(cells: &[E], position: usize) -> bool
+pub(crate) fn turns_up<E: Entry>(cells: &[E], position: usize) -> bool
     requires { ⌜ 1024 ≤ length (now cells) ⌝ ∗ ⌜ position < 32 ⌝ }
     ensures low { λ r. ⌜ (r ≡ false → under (at neutral (now (cells .entry)) position position) neutral) ⌝ }
     ensures high { λ r. ⌜ (r ≡ true → under (at neutral (now (cells .entry)) position position) neutral → ⊥) ⌝ }
@@ -86,7 +86,7 @@ pub fn turns_up<E: Entry>(cells: &[E], position: usize) -> bool
 
 // Closes the chart position by position. It stops at a position whose entry to itself beats the neutral one, processes
 // neither it nor those after it, and answers it.
-pub fn close<E: Entry>(cells: &mut [E], count: usize) -> Option<usize>
+pub(crate) fn close<E: Entry>(cells: &mut [E], count: usize) -> Option<usize>
     requires { ⌜ 1024 ≤ length (now cells) ⌝ ∗ ⌜ count ≤ 32 ⌝ }
     requires { ⌜ ClosedTo neutral sum under within count 0 (now cells) (now cells) ⌝ }
     ensures { λ r. ⌜ Closing neutral sum under within count (now (cells .entry)) (now (cells .exit)) r ⌝ }

@@ -102,7 +102,7 @@ fn raise_link<S: Source, E: Entry>(source: &S, places: &Places, cells: &mut [E],
 }
 
 // Fills the chart: every pair of positions has an entry, and every link is under its own.
-pub fn fill<S: Source, E: Entry>(source: &S, places: &Places, cells: &mut [E])
+pub(crate) fn fill<S: Source, E: Entry>(source: &S, places: &Places, cells: &mut [E])
     requires { ⌜ 1024 ≤ length (now cells) ⌝ ∗ ⌜ IsPlaces (S·Source .sheet (now source) .told) (now places) ⌝ }
     ensures { λ _. ⌜ FilledTo neutral sum value under within (S·Source .sheet (now (source .entry)) .told) (now (places .entry)) 432 (now (cells .exit)) ⌝ }
 {

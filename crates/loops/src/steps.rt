@@ -126,7 +126,7 @@ fn find_link<S: Source>(
 }
 
 // A link that accounts for the entry from position `here` to the position at which the chart stopped.
-pub fn next_link<S: Source>(
+pub(crate) fn next_link<S: Source>(
     source: &S,
     places: &Places,
     cells: &[Counted],
