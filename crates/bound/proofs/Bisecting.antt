@@ -7,7 +7,7 @@ use Prim.Native.Nat.{ℕ, _+_, _-_, _*_, _≤_, _<_}
 use native.Mathlib.Nat.{mul-comm, mul-zero}
 use native.Mathlib.Omega.{arith}
 use lib.IntN.{ℤ, pos, _-ℤ_}
-use lib.ListN.{length}
+use lib.ListN.{length, take}
 use lib.Signed.{_≤ℤ_, _<ℤ_}
 use Rattle.std.proofs.shelf.Signed.{ints, by-ltZ}
 use Rattle.std.proofs.shelf.Tests.{cases-lt, true≢false, false≢true}
@@ -35,6 +35,7 @@ use Rattle.walks.proofs.Periods.{longer-keeps}
 use Rattle.walks.proofs.Potentials.{row-lawful}
 use Rattle.walks.proofs.RunLaws.{along, no-lawful, weight-by-parts}
 use Rattle.walks.specs.Theorems.{HeavyLoop}
+use Rattle.loops.specs.Loops.{RestKept}
 use Rattle.bound.specs.Bounds.{Works, Fails, Blocked, Least}
 
 -- the links of a sheet are the same at every period
@@ -114,16 +115,22 @@ below-bound s low high next (inr blocked) = let back : low ≡ high - 1 = omega 
 -- what a worked chart says of the sheet
 module _ (sheet : SoundSheet) (before after : List Hours) (room : 1024 ≤ length before) where
   pub worked-works : (r : Result Places Stop) → WorkedOut no-hours hours-sum link-hours HoursUnder AloneWithin (sheet .told) before after r → isOk r ≡ true → ∥ ((t : Timetable) × Lawful (sheet .told) t) ∥₁
-  worked-works (Ok p) closes ok = ∣ (_, row-lawful (sheet .told) (sheet .sound) _ (closed-matrix hours-alone sheet p (closes .places) after (closes .worked)) 0 refl) ∣₁
+  worked-works (Ok p) closes ok = ∣ (_, row-lawful (sheet .told) (sheet .sound) _ (let chart = closes .chart in closed-matrix hours-alone sheet p (chart .places) (take 1024 after) (chart .worked)) 0 refl) ∣₁
   worked-works (Err stop) told ok = absurd (false≢true ok)
 
   pub worked-blocked : (r : Result Places Stop) → WorkedOut no-hours hours-sum link-hours HoursUnder AloneWithin (sheet .told) before after r → isOk r ≡ false → Blocked (sheet .told) (sheet .told .period)
   worked-blocked (Ok p) closes fails = absurd (true≢false fails)
   worked-blocked (Err Short) lacks fails = let short = lacks .short in absurd (omega arith)
   worked-blocked (Err (Beaten p k)) stops fails =
-      let run = heavy-run hours-alone sheet p (stops .places) after k k (stops .worked) (stops .inside) (stops .beats) in
+      let chart = stops .chart in
+      let run = heavy-run hours-alone sheet p (chart .places) (take 1024 after) k k (chart .worked) (chart .inside) (chart .beats) in
       let heavy = heavy-loop (sheet .told) (sheet .told .period) _ (run .run) (run .closed) (run .heavy) in
       record { links = heavy .links; loop = heavy .loop; heavy = heavy .heavy }
+
+  pub worked-kept : (r : Result Places Stop) → WorkedOut no-hours hours-sum link-hours HoursUnder AloneWithin (sheet .told) before after r → RestKept before after
+  worked-kept (Ok p) closes = closes .rest
+  worked-kept (Err Short) lacks = let short = lacks .short in absurd (omega arith)
+  worked-kept (Err (Beaten p k)) stops = stops .rest
 
 -- a period from 1 to 999 is told as it is
 pub as-it-is : (hours : ℕ) → 1 ≤ hours → hours ≤ 999 → as-period hours ≡ hours

@@ -9,7 +9,7 @@ use Rattle.std.specs.declared.result.Result.{Result}
 use Rattle.std.specs.declared.result.Result.the-variants.{Ok, Err}
 use Rattle.kinds.specs.declared.alone.Hours.{Hours}
 use Rattle.kinds.specs.declared.together.Counted.{Counted}
-use Rattle.loops.specs.Loops.{LoopWritten}
+use Rattle.loops.specs.Loops.{LoopWritten, RestKept}
 use Rattle.sheet.specs.Layers.{at-period}
 use Rattle.sheet.specs.Links.{Loop, run-weight}
 use Rattle.sheet.specs.Sheets.{RuleSheet}
@@ -52,9 +52,12 @@ pub record Room (b : Buffers) : Type 0 where
   pub counted : 1024 ≤ length (b .counted)
   pub codes : 32 ≤ length (b .codes)
 
--- The bound was told, which is also the least period with a lawful timetable.
+-- The bound was told, which is also the least period with a lawful timetable. Of the working charts the one of hours
+-- was used.
 pub record Told (s : RuleSheet) (bound : ℕ) (before after : Buffers) : Type 0 where
   pub room : Room before
+  pub hours : RestKept (before .hours) (after .hours)
+  pub counted : after .counted ≡ before .counted
   pub is : IsBound s bound
   pub least : Least s bound
   pub codes : after .codes ≡ before .codes
@@ -63,6 +66,8 @@ pub record Told (s : RuleSheet) (bound : ℕ) (before after : Buffers) : Type 0 
 pub record Refused (s : RuleSheet) (count : ℕ) (before after : Buffers) : Type 0 where
   pub room : Room before
   pub none : Fails s 999
+  pub hours : RestKept (before .hours) (after .hours)
+  pub counted : RestKept (before .counted) (after .counted)
   pub loop : LoopWritten (at-period s 999) (before .codes) (after .codes) count
 
 -- Some buffer is too short: all are as they were.

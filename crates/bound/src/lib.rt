@@ -3,7 +3,7 @@ ghost use mathlib.Core.Bool.{true, false};
 ghost use mathlib.Core.Path.{_≡_};
 ghost use Prim.Native.Nat.{_≤_};
 ghost use lib.ListN.{length};
-ghost use Rattle.loops.specs.Loops.{LoopWritten};
+ghost use Rattle.loops.specs.Loops.{LoopWritten, RestKept};
 ghost use Rattle.chart.specs.Runs.{WorkedOut};
 ghost use Rattle.kinds.specs.Alone.{no-hours, hours-sum, HoursUnder, AloneWithin, link-hours};
 ghost use Rattle.sheet.specs.Layers.{at-period, other-period};
@@ -58,6 +58,7 @@ fn work_at<S: Source>(source: &S, period: u16, hours: &mut [Hours]) -> Result<Pl
 // Whether there is a lawful timetable at a period.
 fn works_at<S: Source>(source: &S, period: u16, hours: &mut [Hours]) -> bool
     requires { ⌜ 1024 ≤ length (now hours) ⌝ ∗ ⌜ 1 ≤ period ⌝ ∗ ⌜ period ≤ 999 ⌝ }
+    ensures kept { λ _. ⌜ RestKept (now (hours .entry)) (now (hours .exit)) ⌝ }
     ensures yes { λ r. ⌜ (r ≡ true → Works (S·Source .sheet (now (source .entry)) .told) period) ⌝ }
     ensures no { λ r. ⌜ (r ≡ false → Blocked (S·Source .sheet (now (source .entry)) .told) period) ⌝ }
 {
@@ -67,6 +68,7 @@ fn works_at<S: Source>(source: &S, period: u16, hours: &mut [Hours]) -> bool
 // The least period with a lawful timetable, where there is one at the longest.
 fn least_period<S: Source>(source: &S, hours: &mut [Hours]) -> u16
     requires { ⌜ 1024 ≤ length (now hours) ⌝ ∗ ⌜ Works (S·Source .sheet (now source) .told) 999 ⌝ }
+    ensures kept { λ _. ⌜ RestKept (now (hours .entry)) (now (hours .exit)) ⌝ }
     ensures bound { λ r. ⌜ IsBound (S·Source .sheet (now (source .entry)) .told) r ⌝ }
     ensures least { λ r. ⌜ Least (S·Source .sheet (now (source .entry)) .told) r ⌝ }
 {
@@ -87,7 +89,8 @@ fn least_period<S: Source>(source: &S, hours: &mut [Hours]) -> u16
 fn loop_codes<S: Source>(source: &S, counted: &mut [Counted], codes: &mut [u16]) -> usize
     requires { ⌜ 1024 ≤ length (now counted) ⌝ ∗ ⌜ 32 ≤ length (now codes) ⌝ }
     requires { ⌜ Fails (S·Source .sheet (now source) .told) 999 ⌝ }
-    ensures { λ r. ⌜ LoopWritten (at-period (S·Source .sheet (now (source .entry)) .told) 999) (now (codes .entry)) (now (codes .exit)) r ⌝ }
+    ensures kept { λ _. ⌜ RestKept (now (counted .entry)) (now (counted .exit)) ⌝ }
+    ensures codes { λ r. ⌜ LoopWritten (at-period (S·Source .sheet (now (source .entry)) .told) 999) (now (codes .entry)) (now (codes .exit)) r ⌝ }
 {
     let other = OtherPeriod {
         below: source,

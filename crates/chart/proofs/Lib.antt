@@ -4,5 +4,6 @@ pub mod Stages
 pub mod Collecting
 pub mod Joining
 pub mod Filling
+pub mod Fronts
 pub mod Working
 pub mod Accounts

@@ -3,7 +3,7 @@ use mathlib.Core.List.{List, [], _∷_}
 use mathlib.Core.Logic.{_⊎_}
 use mathlib.Core.Path.{_≡_}
 use Prim.Native.Nat.{ℕ, _^_, _≤_, _<_, max}
-use lib.ListN.{length}
+use lib.ListN.{length, take, drop}
 use Rattle.std.specs.declared.result.Result.{Result}
 use Rattle.std.specs.declared.result.Result.the-variants.{Ok, Err}
 use Rattle.sheet.specs.declared.forms.Link.{Link}
@@ -81,18 +81,28 @@ module _ {E : Type 0} (neutral : E) (sum : E → E → E) (value : ℕ → Link 
       pub short : (a b : ℕ) → a < p .count → b < p .count → within (2 ^ 33) (at neutral xs a b)
 
     -- Every position is processed.
-    pub record Closes (s : RuleSheet) (xs ys : List E) (p : Places) : Type 0 where
-      pub room : 1024 ≤ length xs
+    pub record Closes (s : RuleSheet) (xs : List E) (p : Places) : Type 0 where
       pub places : IsPlaces s p
-      pub worked : Worked s p (p .count) ys
+      pub worked : Worked s p (p .count) xs
 
     -- The positions below k are processed, and the entry of k to itself beats the neutral one: some closed run does.
-    pub record StopsAt (s : RuleSheet) (xs ys : List E) (p : Places) (k : ℕ) : Type 0 where
-      pub room : 1024 ≤ length xs
+    pub record StopsAt (s : RuleSheet) (xs : List E) (p : Places) (k : ℕ) : Type 0 where
       pub places : IsPlaces s p
       pub inside : k < p .count
-      pub worked : Worked s p k ys
-      pub beats : under (at neutral ys k k) neutral → ⊥
+      pub worked : Worked s p k xs
+      pub beats : under (at neutral xs k k) neutral → ⊥
+
+    -- The answer of a working chart that has its room.
+    abbrev pub Answered : RuleSheet → List E → Result Places Stop → Type 0
+    Answered s xs (Ok p) = Closes s xs p
+    Answered s xs (Err Short) = ⊥
+    Answered s xs (Err (Beaten p k)) = StopsAt s xs p k
+
+    -- The chart stands in the first 1,024 entries of a buffer, and what lies behind them is as it was.
+    pub record AtFront (s : RuleSheet) (xs ys : List E) (r : Result Places Stop) : Type 0 where
+      pub room : 1024 ≤ length xs
+      pub chart : Answered s (take 1024 ys) r
+      pub rest : drop 1024 ys ≡ drop 1024 xs
 
     -- The buffer is too short, and stays as it was.
     pub record LacksRoom (xs ys : List E) : Type 0 where
@@ -101,6 +111,6 @@ module _ {E : Type 0} (neutral : E) (sum : E → E → E) (value : ℕ → Link 
 
     -- The answer of a working chart for a sheet, from its buffer before and after.
     abbrev pub WorkedOut : RuleSheet → List E → List E → Result Places Stop → Type 0
-    WorkedOut s xs ys (Ok p) = Closes s xs ys p
+    WorkedOut s xs ys (Ok p) = AtFront s xs ys (Ok p)
     WorkedOut s xs ys (Err Short) = LacksRoom xs ys
-    WorkedOut s xs ys (Err (Beaten p k)) = StopsAt s xs ys p k
+    WorkedOut s xs ys (Err (Beaten p k)) = AtFront s xs ys (Err (Beaten p k))

@@ -3,7 +3,7 @@ ghost use mathlib.Core.Path.{_≡_};
 ghost use Prim.Native.Nat.{_≤_};
 ghost use denote.Ref.{name};
 ghost use lib.ListN.{length};
-ghost use Rattle.chart.specs.Runs.{WorkedOut};
+ghost use Rattle.chart.specs.Runs.{Answered, WorkedOut};
 use super::cells::close;
 use super::entry::Entry;
 use super::fill::fill;
@@ -13,7 +13,7 @@ use sheet::Source;
 
 fn fill_and_close<S: Source, E: Entry>(source: &S, cells: &mut [E]) -> Result<Places, Stop>
     requires { ⌜ 1024 ≤ length (now cells) ⌝ }
-    ensures { λ r. ⌜ WorkedOut neutral sum value under within (S·Source .sheet (now (source .entry)) .told) (now (cells .entry)) (now (cells .exit)) r ⌝ }
+    ensures { λ r. ⌜ Answered neutral sum value under within (S·Source .sheet (now (source .entry)) .told) (now (cells .exit)) r ⌝ }
 {
     let places = Places::of(source);
     fill(source, &places, cells);
@@ -21,6 +21,14 @@ fn fill_and_close<S: Source, E: Entry>(source: &S, cells: &mut [E]) -> Result<Pl
         None => Ok(places),
         Some(position) => Err(Stop::Beaten { places, position }),
     }
+}
+
+// Works in the first 1,024 entries of a buffer.
+fn use_front<S: Source, E: Entry>(source: &S, cells: &mut [E]) -> Result<Places, Stop>
+    requires { ⌜ 1024 ≤ length (now cells) ⌝ }
+    ensures { λ r. ⌜ WorkedOut neutral sum value under within (S·Source .sheet (now (source .entry)) .told) (now (cells .entry)) (now (cells .exit)) r ⌝ }
+{
+    fill_and_close(source, &mut cells[..1024])
 }
 
 // Entries between the places of a sheet, the one from position a to position b at 32 * a + b.
@@ -39,7 +47,7 @@ impl<'a, E: Entry> Chart<'a, E> {
         if self.cells.len() < 1024 {
             return Err(Stop::Short);
         }
-        fill_and_close(source, self.cells)
+        use_front(source, self.cells)
     }
 }
 

@@ -25,9 +25,13 @@ pub record LoopWritten (s : RuleSheet) (before after : List ℕ) (count : ℕ) :
   pub counted : count ≡ length links
   pub written : after ≡ codes-of links ++ drop count before
 
+-- Of a buffer for a working chart, what lies behind the chart's 1,024 entries is as it was.
+abbrev pub RestKept : {E : Type 0} → List E → List E → Type 0
+RestKept before after = drop 1024 after ≡ drop 1024 before
+
 -- The answer to a search for such a loop. One is found exactly if the sheet has no lawful timetable. Without one the
 -- buffer for codes stays as it was, and buffers that are too short are all left as they were.
 abbrev pub Searched : {E : Type 0} → RuleSheet → List E → List E → List ℕ → List ℕ → Sought → Type 0
 Searched s cells cells-after codes codes-after TooShort = ((length cells < 1024) ⊎ (length codes < 32)) × (cells-after ≡ cells) × (codes-after ≡ codes)
-Searched s cells cells-after codes codes-after NoLoop = ∥ ((t : Timetable) × Lawful s t) ∥₁ × (codes-after ≡ codes)
-Searched s cells cells-after codes codes-after (Found count) = LoopWritten s codes codes-after count
+Searched s cells cells-after codes codes-after NoLoop = ∥ ((t : Timetable) × Lawful s t) ∥₁ × RestKept cells cells-after × (codes-after ≡ codes)
+Searched s cells cells-after codes codes-after (Found count) = RestKept cells cells-after × LoopWritten s codes codes-after count

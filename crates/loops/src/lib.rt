@@ -2,7 +2,7 @@
 // along links that account for the entry exactly. The count of links falls with each, so no place is met twice.
 ghost use mathlib.Core.Path.{_≡_};
 ghost use Prim.Native.Nat.{_≤_, _<_};
-ghost use lib.ListN.{length, set};
+ghost use lib.ListN.{length, set, take};
 ghost use Rattle.loops.specs.Loops.{LoopWritten, Searched};
 ghost use Rattle.loops.specs.Steps.{Stopped};
 
@@ -57,6 +57,21 @@ fn write_loop<S: Source>(
     }
 }
 
+// Writes the codes of a loop of the chart that stands in the first 1,024 entries of a buffer.
+fn write_from_front<S: Source>(
+    source: &S,
+    places: &Places,
+    cells: &[Counted],
+    stop: usize,
+    codes: &mut [u16],
+) -> usize
+    requires { ⌜ 1024 ≤ length (now cells) ⌝ ∗ ⌜ 32 ≤ length (now codes) ⌝ }
+    requires { ⌜ Stopped (S·Source .sheet (now source) .told) (now places) stop (take 1024 (now cells)) ⌝ }
+    ensures { λ r. ⌜ LoopWritten (S·Source .sheet (now (source .entry)) .told) (now (codes .entry)) (now (codes .exit)) r ⌝ }
+{
+    write_loop(source, places, &cells[..1024], stop, codes)
+}
+
 fn search_loop<S: Source>(source: &S, cells: &mut [Counted], codes: &mut [u16]) -> Sought
     requires { ⌜ 1024 ≤ length (now cells) ⌝ ∗ ⌜ 32 ≤ length (now codes) ⌝ }
     ensures { λ r. ⌜ Searched (S·Source .sheet (now (source .entry)) .told) (now (cells .entry)) (now (cells .exit)) (now (codes .entry)) (now (codes .exit)) r ⌝ }
@@ -65,7 +80,7 @@ fn search_loop<S: Source>(source: &S, cells: &mut [Counted], codes: &mut [u16]) 
         Ok(_) => Sought::NoLoop,
         Err(Stop::Short) => Sought::TooShort,
         Err(Stop::Beaten { places, position }) => {
-            let count = write_loop(source, &places, cells, position, codes);
+            let count = write_from_front(source, &places, cells, position, codes);
             Sought::Found { count }
         }
     }

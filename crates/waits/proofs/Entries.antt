@@ -28,6 +28,7 @@ use Rattle.std.specs.declared.result.Result.the-variants.{Err}
 use Rattle.walks.proofs.RunLaws.{no-lawful}
 use Rattle.walks.proofs.Potentials.{entries-are-waits}
 use Rattle.walks.proofs.Small.{wait-small}
+use Rattle.loops.specs.Loops.{RestKept}
 use Rattle.waits.specs.Charts.{Finished, ChartWritten}
 
 module _ (sheet : SoundSheet) {p : Places} {cells : List Hours} (finished : Finished (sheet .told) p cells) where
@@ -48,7 +49,8 @@ module _ (sheet : SoundSheet) {p : Places} {cells : List Hours} (finished : Fini
 pub stopped-none : (sheet : SoundSheet) (before after : List Hours) (stop : Stop) → 1024 ≤ length before → WorkedOut no-hours hours-sum link-hours HoursUnder AloneWithin (sheet .told) before after (Err stop) → (t : Timetable) → Lawful (sheet .told) t → ⊥
 stopped-none sheet before after Short room lacks t lawful = let short = lacks .short in omega arith
 stopped-none sheet before after (Beaten p k) room stops t lawful =
-    let heavy = heavy-run hours-alone sheet p (stops .places) after k k (stops .worked) (stops .inside) (stops .beats) in
+    let chart = stops .chart in
+    let heavy = heavy-run hours-alone sheet p (chart .places) (take 1024 after) k k (chart .worked) (chart .inside) (chart .beats) in
     no-lawful (sheet .told) _ (heavy .run) (heavy .closed) (heavy .heavy) t lawful
 
 -- one entry more, and one cell less behind it
@@ -80,3 +82,8 @@ whole-chart s before after room entries rest = record {
   };
   rest = rest;
 }
+
+-- the buffer of a chart with room keeps what lies behind it, whatever the answer
+pub worked-kept : (s : RuleSheet) (before after : List Hours) (stop : Stop) → 1024 ≤ length before → WorkedOut no-hours hours-sum link-hours HoursUnder AloneWithin s before after (Err stop) → RestKept before after
+worked-kept s before after Short room lacks = let short = lacks .short in absurd (omega arith)
+worked-kept s before after (Beaten p k) room stops = stops .rest

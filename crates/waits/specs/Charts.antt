@@ -12,7 +12,7 @@ use Rattle.chart.specs.declared.places.Places.{Places}
 use Rattle.kinds.specs.Alone.{no-hours, hours-sum, HoursUnder, AloneWithin, link-hours}
 use Rattle.kinds.specs.declared.alone.Hours.{Hours}
 use Rattle.kinds.specs.declared.together.Counted.{Counted}
-use Rattle.loops.specs.Loops.{LoopWritten}
+use Rattle.loops.specs.Loops.{LoopWritten, RestKept}
 use Rattle.sheet.specs.Sheets.{RuleSheet}
 use Rattle.sheet.specs.Timetables.{Timetable, Lawful}
 use Rattle.sheet.specs.Waits.{IsChart}
@@ -47,9 +47,11 @@ pub record Room (b : Buffers) : Type 0 where
   pub chart : 1024 ≤ length (b .chart)
   pub codes : 32 ≤ length (b .codes)
 
--- A chart was given: it is the sheet's, and the codes are as they were.
+-- A chart was given: it is the sheet's, and the codes are as they were. Of the working charts the one of hours was used.
 pub record Given (s : RuleSheet) (before after : Buffers) : Type 0 where
   pub room : Room before
+  pub hours : RestKept (before .hours) (after .hours)
+  pub counted : after .counted ≡ before .counted
   pub written : ChartWritten s (before .chart) (after .chart)
   pub codes : after .codes ≡ before .codes
 
@@ -57,6 +59,8 @@ pub record Given (s : RuleSheet) (before after : Buffers) : Type 0 where
 pub record Refused (s : RuleSheet) (count : ℕ) (before after : Buffers) : Type 0 where
   pub room : Room before
   pub none : (t : Timetable) → Lawful s t → ⊥
+  pub hours : RestKept (before .hours) (after .hours)
+  pub counted : RestKept (before .counted) (after .counted)
   pub loop : LoopWritten s (before .codes) (after .codes) count
   pub chart : after .chart ≡ before .chart
 

@@ -3,11 +3,12 @@
 ghost use mathlib.Core.Path.{_≡_};
 ghost use Prim.Native.Nat.{_≤_, _<_};
 ghost use lib.IntN.{pos, negℤ};
-ghost use lib.ListN.{length};
+ghost use lib.ListN.{length, take};
 ghost use lib.Signed.{_≤ℤ_};
 ghost use Rattle.chart.specs.Cells.{at};
-ghost use Rattle.kinds.specs.Alone.{no-hours};
-ghost use Rattle.loops.specs.Loops.{LoopWritten};
+ghost use Rattle.chart.specs.Runs.{Closes};
+ghost use Rattle.kinds.specs.Alone.{no-hours, hours-sum, HoursUnder, AloneWithin, link-hours};
+ghost use Rattle.loops.specs.Loops.{LoopWritten, RestKept};
 ghost use Rattle.sheet.specs.Sheets.{present};
 ghost use Rattle.sheet.specs.Timetables.{Timetable, Lawful};
 ghost use Rattle.sheet.specs.Waits.{IsEntry};
@@ -87,11 +88,21 @@ fn write_chart<S: Source>(source: &S, places: &Places, cells: &[Hours], chart: &
     }
 }
 
+// Writes the chart from the working chart that stands in the first 1,024 entries of a buffer.
+fn write_from_front<S: Source>(source: &S, places: &Places, cells: &[Hours], chart: &mut [i16])
+    requires { ⌜ 1024 ≤ length (now cells) ⌝ ∗ ⌜ 1024 ≤ length (now chart) ⌝ }
+    requires { ⌜ Closes no-hours hours-sum link-hours HoursUnder AloneWithin (S·Source .sheet (now source) .told) (take 1024 (now cells)) (now places) ⌝ }
+    ensures { λ _. ⌜ ChartWritten (S·Source .sheet (now (source .entry)) .told) (now (chart .entry)) (now (chart .exit)) ⌝ }
+{
+    write_chart(source, places, &cells[..1024], chart);
+}
+
 // The codes of a loop of a sheet that has no lawful timetable.
 fn loop_codes<S: Source>(source: &S, counted: &mut [Counted], codes: &mut [u16]) -> usize
     requires { ⌜ 1024 ≤ length (now counted) ⌝ ∗ ⌜ 32 ≤ length (now codes) ⌝ }
     requires { ⌜ ((t : Timetable) → Lawful (S·Source .sheet (now source) .told) t → ⊥) ⌝ }
-    ensures { λ r. ⌜ LoopWritten (S·Source .sheet (now (source .entry)) .told) (now (codes .entry)) (now (codes .exit)) r ⌝ }
+    ensures kept { λ _. ⌜ RestKept (now (counted .entry)) (now (counted .exit)) ⌝ }
+    ensures codes { λ r. ⌜ LoopWritten (S·Source .sheet (now (source .entry)) .told) (now (codes .entry)) (now (codes .exit)) r ⌝ }
 {
     match find_loop(source, counted, codes) {
         Sought::Found { count } => count,
@@ -112,7 +123,7 @@ fn chart_or_loop<S: Source>(
 {
     match work_out(source, hours) {
         Ok(places) => {
-            write_chart(source, &places, hours, chart);
+            write_from_front(source, &places, hours, chart);
             Ok(())
         }
         Err(_) => {

@@ -12,4 +12,4 @@ returns g c =
     let low : c .loop-high .low < c .loop-high .high = inv .0 in
     let next : c .loop-high .high - c .loop-high .low ≤ 1 = c .loop-high-test .left in
     let below = below-bound s (c .loop-high .low) (c .loop-high .high) (omega arith) (inv .3) in
-    record { bound = is-bound s (c .loop-high .high) (omega arith) (inv .2) below; least = is-least s (c .loop-high .high) (inv .2) below }
+    record { kept = inv .4; bound = is-bound s (c .loop-high .high) (omega arith) (inv .2) below; least = is-least s (c .loop-high .high) (inv .2) below }

@@ -16,7 +16,6 @@ returns-in-None g c =
     let sheet = g .S·Source .sheet (c .args .source .now) in
     let is = c .of-places .ensures in
     record {
-      room = c .pre;
       places = is;
       worked =
           worked (g .E·Entry .laws) sheet (c .of-places .result) is _ (c .fill .ensures) (c .of-places .result .count) _ (omega arith)
@@ -30,7 +29,6 @@ returns-in-Some g c =
     let closing = c .in-Some .ensures tt in
     let low = closing .0 in
     record {
-      room = c .pre;
       places = is;
       inside = low;
       worked =
