@@ -1,4 +1,6 @@
 // Books of commands: what a command says, how it is spelled in bytes, and how a book is walked.
+#![tactic(auto)]
+
 mod commands;
 mod decoding;
 mod faults;

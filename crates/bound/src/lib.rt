@@ -1,4 +1,6 @@
 // The period bound: the shortest period that the rules of a source allow, by bisection over the periods.
+#![tactic(auto)]
+
 ghost use Rattle.std.specs.Prelude.{◌≡◌, ◌≤◌, true, false, length};
 ghost use Rattle.loops.specs.Loops.{LoopWritten, RestKept};
 ghost use Rattle.chart.specs.Runs.{WorkedOut};

@@ -1,4 +1,6 @@
 // Sheets beside their period bound and their waits, worked out by hand.
+#![tactic(auto)]
+
 #[cfg(test)]
 mod tests {
     use bound::period_bound;

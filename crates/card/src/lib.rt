@@ -1,4 +1,6 @@
 // Cards: a sheet as bytes that is itself a rule source.
+#![tactic(auto)]
+
 mod card;
 mod checking;
 mod faults;

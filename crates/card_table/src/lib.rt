@@ -1,4 +1,6 @@
 // Faulty cards beside their first fault, worked out by hand from the format.
+#![tactic(auto)]
+
 #[cfg(test)]
 mod tests {
     use card::{CardCause, CardFault, check as check_card};

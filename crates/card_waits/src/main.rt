@@ -1,4 +1,6 @@
 // The wait charts of two cards, one of them faulty, and of the sound one through both layers.
+#![tactic(auto)]
+
 use card::Card;
 use kinds::{Counted, Hours};
 use sheet::{LeftOut, OtherPeriod, Source};

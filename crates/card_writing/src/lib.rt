@@ -1,4 +1,6 @@
 // A full sheet written as a card.
+#![tactic(auto)]
+
 mod cards;
 mod commands;
 mod placing;

@@ -1,4 +1,6 @@
 // Prints the sheet of the books `office.bok` and `tablet.bok` in the current folder.
+#![tactic(auto)]
+
 use page::page;
 use std::io::{ErrorKind, Write};
 use std::{fs, io};

@@ -1,4 +1,6 @@
 // What each command asks of a sheet, and what can be wrong with it there.
+#![tactic(auto)]
+
 mod faults;
 mod limits;
 

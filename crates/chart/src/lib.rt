@@ -1,4 +1,6 @@
 // The working chart: entries between the places of a sheet, closed place by place, for every kind of entry.
+#![tactic(auto)]
+
 mod cells;
 mod entry;
 mod fill;

@@ -1,4 +1,6 @@
 // Full sheets that keep every limit, as rule sources.
+#![tactic(auto)]
+
 mod checked;
 mod limits;
 

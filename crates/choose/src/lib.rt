@@ -1,4 +1,6 @@
 // Choosers: rules that pick a start hour for a step from what is shown of it.
+#![tactic(auto)]
+
 mod chooser;
 mod crowd;
 mod earliest;

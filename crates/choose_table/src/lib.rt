@@ -1,4 +1,6 @@
 // Choosers and vessels on small examples, worked out by hand.
+#![tactic(auto)]
+
 #[cfg(test)]
 mod choosers {
     use choose::{Chooser, Earliest, Latest, LeastCrowded, Shown};

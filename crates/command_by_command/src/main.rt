@@ -1,4 +1,6 @@
 // The worked example of three steps, entered command by command into an empty planner.
+#![tactic(auto)]
+
 use book::Command;
 use kinds::{Counted, Hours};
 use planner::{Planner, Refusal};

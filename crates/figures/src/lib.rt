@@ -1,4 +1,6 @@
 // The figures of the cellar's worked example: of the definitions, as a theorem, and of the library's answers, as tests.
+#![tactic(auto)]
+
 ghost use Rattle.figures.specs.Figures.{Figures};
 
 // Every figure is what the definitions say.

@@ -1,4 +1,6 @@
 // The kinds of entry that a working chart is used with.
+#![tactic(auto)]
+
 mod alone;
 mod together;
 

@@ -1,4 +1,6 @@
 // The lines of the printed sheet, each written into a caller's buffer.
+#![tactic(auto)]
+
 mod line;
 mod placing;
 

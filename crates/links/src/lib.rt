@@ -1,4 +1,6 @@
 // The links of any source, told by their codes. Whoever wants all of them asks for every code below `CODES`.
+#![tactic(auto)]
+
 ghost use Rattle.std.specs.Prelude.{◌≡◌};
 ghost use Rattle.sheet.specs.Sheets.{duration};
 ghost use Rattle.walks.specs.Codes.{row_link, link_of};

@@ -1,4 +1,6 @@
 // Lists the books `office.bok` and `tablet.bok` of the current folder, or of each folder that is named.
+#![tactic(auto)]
+
 use std::io::ErrorKind;
 use std::{env, fs, io};
 use transcript::listing;

@@ -1,5 +1,7 @@
 // The loop behind a refusal: closes a working chart of hours with links, and from the place at which that stops walks
 // along links that account for the entry exactly. The count of links falls with each, so no place is met twice.
+#![tactic(auto)]
+
 ghost use Rattle.std.specs.Prelude.{◌≡◌, ◌<◌, ◌≤◌, length, take, slice_set};
 ghost use Rattle.loops.specs.Loops.{LoopWritten, Searched};
 ghost use Rattle.loops.specs.Steps.{Stopped};

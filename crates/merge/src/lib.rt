@@ -1,4 +1,6 @@
 // Two books into one planner: the office's, then the tablet's.
+#![tactic(auto)]
+
 mod merging;
 mod refusals;
 mod reports;

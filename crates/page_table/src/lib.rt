@@ -1,4 +1,6 @@
 // Books beside the text that is printed of them, worked out by hand from the rules.
+#![tactic(auto)]
+
 #[cfg(test)]
 mod tests {
     use page::page;

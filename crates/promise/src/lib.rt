@@ -1,5 +1,7 @@
 // The whole promise at one call: a run of calls on an empty planner, the wait charts of two rule sources and their
 // comparison, and a plan.
+#![tactic(auto)]
+
 mod charts;
 mod plans;
 mod promise;

@@ -1,4 +1,6 @@
 // Runs of calls: commands and merges carried out one after another on an empty planner.
+#![tactic(auto)]
+
 mod calls;
 mod running;
 

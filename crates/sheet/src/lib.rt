@@ -1,4 +1,6 @@
 // The cellar's sheet, and rule sources: whatever can tell a sheet's period, span, steps and rules.
+#![tactic(auto)]
+
 mod forms;
 mod left_out;
 mod other_period;

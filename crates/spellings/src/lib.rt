@@ -1,4 +1,6 @@
 // The ten commands beside their bytes, worked out by hand from the format.
+#![tactic(auto)]
+
 #[cfg(test)]
 mod tests {
     use book::{Command, Unwritten, decode, encode};

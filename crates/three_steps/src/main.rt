@@ -1,4 +1,6 @@
 // The links of a small sheet, with their weights: first as the sheet stands, then through both layers.
+#![tactic(auto)]
+
 ghost use Rattle.std.specs.Prelude.{◌≡◌};
 ghost use Rattle.three_steps.specs.Example.{three_steps};
 

@@ -1,5 +1,7 @@
 // Small sheets beside all their timetables and all their loops, by plain enumeration: what the library tells of each sheet
 // is compared with what was found by trying everything.
+#![tactic(auto)]
+
 mod bound_trial;
 mod cellar;
 mod chart_trial;

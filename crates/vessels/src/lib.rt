@@ -1,4 +1,6 @@
 // Vessels: which vessel each step of a timetable gets.
+#![tactic(auto)]
+
 mod giving;
 mod placed;
 mod refusals;

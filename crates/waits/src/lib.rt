@@ -1,5 +1,7 @@
 // The wait chart: the least waits between all places of a source's sheet, or the loop that leaves it without a lawful
 // timetable.
+#![tactic(auto)]
+
 ghost use Rattle.std.specs.Prelude.{◌≡◌, ◌<◌, ◌≤◌, length, take, pos, neg_ℤ, ◌≤ℤ◌};
 ghost use Rattle.chart.specs.Cells.{at};
 ghost use Rattle.chart.specs.Runs.{Closes};

@@ -1,5 +1,7 @@
 // Theorems on runs of links, loops and waits, each named by the contract of a function that does nothing. Their proofs
 // are lemmas that later crates cite.
+#![tactic(auto)]
+
 ghost use Rattle.walks.specs.Theorems.{
   LawfulIsLinks,
   RunsBind,

@@ -1,4 +1,6 @@
 // Two runs of calls with everything that is promised of them: notes, wait charts, their comparison, and a plan.
+#![tactic(auto)]
+
 use book::Command;
 use choose::{Chooser, Earliest, Latest};
 use kinds::{Counted, Hours};
