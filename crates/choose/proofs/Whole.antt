@@ -1,7 +1,7 @@
 -- From one round of classes to the whole window. Assumes nothing.
 use Rattle.std.proofs.Common.{◌≡◌, ℕ, ◌+◌, ◌-◌, ◌%◌, ◌<◌, ◌≤◌, min, max, List, length, sym, ap, ◌∙◌, subst, ⊎_elim, mod-lt, arith}
 use Rattle.std.proofs.lemmas.Bool.{cases_lt}
-use Rattle.choose.specs.Calmest.{Calmest, Exactly, LeastCrowded, least_crowded_hour, peak_in}
+use Rattle.choose.specs.Calmest.{Calmest, Exactly, IsLeastCrowded, least_crowded_hour, peak_in}
 use Rattle.choose.specs.Classes.{peak}
 use Rattle.choose.specs.Views.{View}
 use Rattle.choose.proofs.Calm.{calmest_one, calmest_stays, calmest_alike, calmest_only, calmest_of}
@@ -26,7 +26,7 @@ module _ (crowd : List ℕ) where
       (cases_lt n (length crowd))
 
 -- what one round of classes tells, with the duration cut to a round, holds of the whole window
-pub whole_window : (v : View) (duration hours hour : ℕ) → 0 < length v.crowd → duration ≡ min (length v.crowd) v.duration → hours ≡ min (max v.first v.last - v.first + 1) (length v.crowd) → Calmest (peak v.crowd duration) v.first (v.first + hours) hour → LeastCrowded v hour
+pub whole_window : (v : View) (duration hours hour : ℕ) → 0 < length v.crowd → duration ≡ min (length v.crowd) v.duration → hours ≡ min (max v.first v.last - v.first + 1) (length v.crowd) → Calmest (peak v.crowd duration) v.first (v.first + hours) hour → IsLeastCrowded v hour
 whole_window v duration hours hour some cut few best =
     one_round v.crowd v.duration v.first (v.first + hours) (max v.first v.last + 1) hour some
     (calmest_alike (λ h. ap (λ m. peak v.crowd m h) cut ∙ cut_alike v.crowd v.duration some h) best)
@@ -34,18 +34,18 @@ whole_window v duration hours hour some cut few best =
     (λ more. omega arith)
 
 -- where no class is shown the first hour is as calm as any
-pub no_classes : (v : View) → length v.crowd ≡ 0 → LeastCrowded v v.first
+pub no_classes : (v : View) → length v.crowd ≡ 0 → IsLeastCrowded v v.first
 no_classes v none =
     calmest_stays (max v.first v.last + 1) (calmest_one v.first) (omega arith)
     (λ h low high. omega (arith, peak_empty v.crowd v.duration v.first none, peak_empty v.crowd v.duration h none))
 
 -- the least crowded hour is the one that is worked out
-pub least_crowded_is : (v : View) → LeastCrowded v (least_crowded_hour v)
+pub least_crowded_is : (v : View) → IsLeastCrowded v (least_crowded_hour v)
 least_crowded_is v = let P : ℕ → Type 0 = λ u. Calmest (peak_in v) v.first u (least_crowded_hour v) in
     let ends : v.first + (v.last - v.first) + 1 ≡ max v.first v.last + 1 = omega arith in
     subst P ends (calmest_of v.first (v.last - v.first))
 
-pub least_crowded_only : (v : View) (hour : ℕ) → LeastCrowded v hour → Exactly (LeastCrowded v) hour
+pub least_crowded_only : (v : View) (hour : ℕ) → IsLeastCrowded v hour → Exactly (IsLeastCrowded v) hour
 least_crowded_only v hour best = record {
   holds = best;
   only = λ h other. calmest_only h hour other best;

@@ -16,8 +16,8 @@ abbrev pub peak_in : View → ℕ → ℕ
 peak_in v hour = peak v.crowd v.duration hour
 
 -- An hour is the calmest of the window. A window whose last hour lies before its first has the first alone.
-abbrev pub LeastCrowded : View → ℕ → Type 0
-LeastCrowded v hour = Calmest (peak_in v) v.first (max v.first v.last + 1) hour
+abbrev pub IsLeastCrowded : View → ℕ → Type 0
+IsLeastCrowded v hour = Calmest (peak_in v) v.first (max v.first v.last + 1) hour
 
 -- what is said of hours holds of this one and of no other
 pub record Exactly (says : ℕ → Type 0) (hour : ℕ) : Type 0 where

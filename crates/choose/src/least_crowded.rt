@@ -1,5 +1,5 @@
 ghost use Rattle.std.specs.Prelude.{◌≡◌, ◌+◌, ◌-◌, ◌^◌, ◌<◌, ◌≤◌, min, max, length};
-ghost use Rattle.choose.specs.Calmest.{Calmest, LeastCrowded, Exactly};
+ghost use Rattle.choose.specs.Calmest.{Calmest, IsLeastCrowded, Exactly};
 ghost use Rattle.choose.specs.Choosing.{least_crowded};
 ghost use Rattle.choose.specs.Classes.{peak};
 ghost use Rattle.choose.specs.Views.{seen};
@@ -47,7 +47,7 @@ fn hours_of(shown: Shown<'_>) -> usize
 }
 
 fn calmest_shown(shown: Shown<'_>) -> u16
-    ensures { LeastCrowded (seen shown.entry) result }
+    ensures { IsLeastCrowded (seen shown.entry) result }
 {
     let period = shown.crowd.len();
     if period == 0 {
@@ -67,7 +67,7 @@ impl Chooser for LeastCrowded {
 
     fn choose(&self, shown: Shown<'_>) -> u16
         ensures value { result ≡ least_crowded.hour (seen shown.entry) }
-        ensures calmest { Exactly (LeastCrowded (seen shown.entry)) result }
+        ensures calmest { Exactly (IsLeastCrowded (seen shown.entry)) result }
     {
         calmest_shown(shown)
     }

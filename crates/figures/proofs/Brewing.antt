@@ -3,7 +3,7 @@ use Rattle.std.proofs.Common.{◌≡◌, ℕ, zero, suc, ◌-◌, ◌<◌, ◌�
 use Rattle.std.specs.Option.{option_map}
 use Rattle.std.proofs.lemmas.Int.{ints}
 use Rattle.std.proofs.lemmas.Bool.{false≢true, true≢false}
-use Rattle.choose.specs.Calmest.{peak_in, LeastCrowded, least_crowded_hour}
+use Rattle.choose.specs.Calmest.{peak_in, IsLeastCrowded, least_crowded_hour}
 use Rattle.choose.specs.Choosing.{HourRule, earliest, least_crowded}
 use Rattle.choose.specs.Views.{View}
 use Rattle.choose.proofs.Whole.{least_crowded_is, least_crowded_only}
@@ -175,7 +175,7 @@ six_filled =
     earliest 0 refl refl refl refl refl
 
 -- an hour that no other of the window beats is the one that least crowded names
-named : (v : View) (hour : ℕ) → LeastCrowded v hour → least_crowded_hour v ≡ hour
+named : (v : View) (hour : ℕ) → IsLeastCrowded v hour → least_crowded_hour v ≡ hour
 named v hour least = (least_crowded_only v hour least).only (least_crowded_hour v) (least_crowded_is v)
 
 -- that is the first, if it meets no crowd
