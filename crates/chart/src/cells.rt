@@ -8,7 +8,7 @@ use super::entry::Entry;
 
 pub(crate) fn get<E: Entry>(cells: &[E], row: usize, column: usize) -> E
     requires { (1024 ≤ length cells.now) × ((row < 32) × (column < 32)) }
-    ensures { result ≡ at neutral cells.now row column }
+    ensures { result ≡ at E.neutral cells.now row column }
 {
     cells[32 * row + column]
 }
@@ -22,7 +22,7 @@ pub(crate) fn put<E: Entry>(cells: &mut [E], row: usize, column: usize, entry: E
 
 pub(crate) fn raise<E: Entry>(cells: &mut [E], row: usize, column: usize, by: E)
     requires { (1024 ≤ length cells.old) × ((row < 32) × (column < 32)) }
-    ensures { RaisedAt neutral under row column by cells.old cells.new }
+    ensures { RaisedAt E.neutral E.under row column by cells.old cells.new }
 {
     if by.beats(cells[32 * row + column]) {
         cells[32 * row + column] = by;
@@ -31,9 +31,9 @@ pub(crate) fn raise<E: Entry>(cells: &mut [E], row: usize, column: usize, by: E)
 
 // Raises a cell by the way over position `by`, of which `to` is the first part.
 pub(crate) fn relax<E: Entry>(cells: &mut [E], row: usize, by: usize, column: usize, to: E)
-    requires in_bounds { (1024 ≤ length cells.old) × ((row < 32) × ((by < 32) × (column < 32))) }
-    requires within { (within limit to) × (within limit (at neutral cells.old by column)) }
-    ensures { RaisedAt neutral under row column (sum to (at neutral cells.old by column)) cells.old cells.new }
+    requires room { (1024 ≤ length cells.old) × ((row < 32) × ((by < 32) × (column < 32))) }
+    requires within { (E.within limit to) × (E.within limit (at E.neutral cells.old by column)) }
+    ensures { RaisedAt E.neutral E.under row column (E.sum to (at E.neutral cells.old by column)) cells.old cells.new }
 {
     let on = get(cells, by, column);
     raise(cells, row, column, to.plus(on));
@@ -41,9 +41,9 @@ pub(crate) fn relax<E: Entry>(cells: &mut [E], row: usize, by: usize, column: us
 
 // Raises the cells of a row by the way over position `by`.
 pub(crate) fn raise_row<E: Entry>(cells: &mut [E], row: usize, by: usize, count: usize)
-    requires in_bounds { (1024 ≤ length cells.old) × ((row < count) × ((by < count) × (count ≤ 32))) }
-    requires within { (within limit (at neutral cells.old row by)) × (((b : ℕ) → b < count → within limit (at neutral cells.old by b))) }
-    ensures { RowTo neutral sum under row by count cells.old cells.new }
+    requires room { (1024 ≤ length cells.old) × ((row < count) × ((by < count) × (count ≤ 32))) }
+    requires within { (E.within limit (at E.neutral cells.old row by)) × (((b : ℕ) → b < count → E.within limit (at E.neutral cells.old by b))) }
+    ensures { RowTo E.neutral E.sum E.under row by count cells.old cells.new }
 {
     let to = get(cells, row, by);
     for b in 0..count {
@@ -53,9 +53,9 @@ pub(crate) fn raise_row<E: Entry>(cells: &mut [E], row: usize, by: usize, count:
 
 // Raises every cell by the way over position `by`. Its own entry is neutral, so that its row and its column stay.
 pub(crate) fn stage<E: Entry>(cells: &mut [E], by: usize, count: usize)
-    requires in_bounds { (1024 ≤ length cells.old) × ((by < count) × (count ≤ 32)) }
-    requires by_value { (at neutral cells.old by by ≡ neutral) × (Short neutral within count limit cells.old) }
-    ensures { StageTo neutral sum under by count count cells.old cells.new }
+    requires room { (1024 ≤ length cells.old) × ((by < count) × (count ≤ 32)) }
+    requires settled { (at E.neutral cells.old by by ≡ E.neutral) × (Short E.neutral E.within count limit cells.old) }
+    ensures { StageTo E.neutral E.sum E.under by count count cells.old cells.new }
 {
     for a in 0..count {
         raise_row(cells, a, by, count);
@@ -64,10 +64,10 @@ pub(crate) fn stage<E: Entry>(cells: &mut [E], by: usize, count: usize)
 
 // Processes position `by`, whose entry to itself does not beat the neutral one.
 pub(crate) fn process<E: Entry>(cells: &mut [E], by: usize, count: usize)
-    requires in_bounds { (1024 ≤ length cells.old) × ((by < count) × (count ≤ 32)) }
-    requires under { (under (at neutral cells.old by by) neutral) × (under neutral (at neutral cells.old by by)) }
-    requires short { Short neutral within count (2 ^ (by + 1)) cells.old }
-    ensures { (xs : List E) → ClosedTo neutral sum under within count by xs cells.old → ClosedTo neutral sum under within count (by + 1) xs cells.new }
+    requires room { (1024 ≤ length cells.old) × ((by < count) × (count ≤ 32)) }
+    requires neutral_turn { (E.under (at E.neutral cells.old by by) E.neutral) × (E.under E.neutral (at E.neutral cells.old by by)) }
+    requires short { Short E.neutral E.within count (2 ^ (by + 1)) cells.old }
+    ensures { (xs : List E) → ClosedTo E.neutral E.sum E.under E.within count by xs cells.old → ClosedTo E.neutral E.sum E.under E.within count (by + 1) xs cells.new }
 {
     stage(cells, by, count);
 }
@@ -75,8 +75,8 @@ pub(crate) fn process<E: Entry>(cells: &mut [E], by: usize, count: usize)
 // Whether the entry of a position to itself beats the neutral one.
 pub(crate) fn turns_up<E: Entry>(cells: &[E], position: usize) -> bool
     requires { (1024 ≤ length cells.now) × (position < 32) }
-    ensures low { result ≡ false → under (at neutral cells.now position position) neutral }
-    ensures high { result ≡ true → under (at neutral cells.now position position) neutral → ⊥ }
+    ensures low { result ≡ false → E.under (at E.neutral cells.now position position) E.neutral }
+    ensures high { result ≡ true → E.under (at E.neutral cells.now position position) E.neutral → ⊥ }
 {
     get(cells, position, position).beats(E::zero())
 }
@@ -84,9 +84,9 @@ pub(crate) fn turns_up<E: Entry>(cells: &[E], position: usize) -> bool
 // Closes the chart position by position. It stops at a position whose entry to itself beats the neutral one, processes
 // neither it nor those after it, and answers it.
 pub(crate) fn close<E: Entry>(cells: &mut [E], count: usize) -> Option<usize>
-    requires in_bounds { (1024 ≤ length cells.old) × (count ≤ 32) }
-    requires closed_to { ClosedTo neutral sum under within count 0 cells.old cells.old }
-    ensures { Closing neutral sum under within count cells.old cells.new result }
+    requires room { (1024 ≤ length cells.old) × (count ≤ 32) }
+    requires closed { ClosedTo E.neutral E.sum E.under E.within count 0 cells.old cells.old }
+    ensures { Closing E.neutral E.sum E.under E.within count cells.old cells.new result }
 {
     for k in 0..count {
         if turns_up(cells, k) {

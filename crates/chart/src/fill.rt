@@ -14,7 +14,7 @@ use sheet::{Link, Source};
 
 // What the link with a code counts for.
 fn entry_with_code<S: Source, E: Entry>(source: &S, code: u16) -> E
-    ensures { (l : Link) → link_of (S.Source.sheet source.now).told code ≡ Some l → result ≡ value (S.Source.sheet source.now).told.period l }
+    ensures { (l : Link) → link_of (S.Source.sheet source.now).told code ≡ Some l → result ≡ E.value (S.Source.sheet source.now).told.period l }
 {
     match link_with_code(source, code) {
         Some(link) => E::of_link(&link, source.period()),
@@ -31,10 +31,10 @@ fn first_entry<S: Source, E: Entry>(
     a: usize,
     b: usize,
 ) -> E
-    requires in_bounds { (1024 ≤ length cells.now) × (IsPlaces (S.Source.sheet source.now).told places.now) }
-    requires a_lt_count { (a < places.now.count) × (b < places.now.count) }
-    requires started_to { StartedTo neutral sum value under within (S.Source.sheet source.now).told places.now a b cells.now }
-    ensures { Edge neutral sum value under within (S.Source.sheet source.now).told places.now a b result }
+    requires room { (1024 ≤ length cells.now) × (IsPlaces (S.Source.sheet source.now).told places.now) }
+    requires places_below { (a < places.now.count) × (b < places.now.count) }
+    requires started { StartedTo E.neutral E.sum E.value E.under E.within (S.Source.sheet source.now).told places.now a b cells.now }
+    ensures { Edge E.neutral E.sum E.value E.under E.within (S.Source.sheet source.now).told places.now a b result }
 {
     if a == b {
         E::zero()
@@ -50,10 +50,10 @@ fn first_entry<S: Source, E: Entry>(
 }
 
 fn first_row<S: Source, E: Entry>(source: &S, places: &Places, cells: &mut [E], row: usize)
-    requires in_bounds { (1024 ≤ length cells.old) × (IsPlaces (S.Source.sheet source.now).told places.now) }
-    requires row_lt_count { row < places.now.count }
-    requires started_to { StartedTo neutral sum value under within (S.Source.sheet source.now).told places.now row 0 cells.old }
-    ensures { StartedTo neutral sum value under within (S.Source.sheet source.now).told places.now (row + 1) 0 cells.new }
+    requires room { (1024 ≤ length cells.old) × (IsPlaces (S.Source.sheet source.now).told places.now) }
+    requires row_below { row < places.now.count }
+    requires started { StartedTo E.neutral E.sum E.value E.under E.within (S.Source.sheet source.now).told places.now row 0 cells.old }
+    ensures { StartedTo E.neutral E.sum E.value E.under E.within (S.Source.sheet source.now).told places.now (row + 1) 0 cells.new }
 {
     for b in 0..places.count {
         let entry = first_entry(source, places, cells, row, b);
@@ -64,7 +64,7 @@ fn first_row<S: Source, E: Entry>(source: &S, places: &Places, cells: &mut [E], 
 // Writes an entry for every pair of positions.
 fn start<S: Source, E: Entry>(source: &S, places: &Places, cells: &mut [E])
     requires { (1024 ≤ length cells.old) × (IsPlaces (S.Source.sheet source.now).told places.now) }
-    ensures { FilledTo neutral sum value under within (S.Source.sheet source.now).told places.now 0 cells.new }
+    ensures { FilledTo E.neutral E.sum E.value E.under E.within (S.Source.sheet source.now).told places.now 0 cells.new }
 {
     for row in 0..places.count {
         first_row(source, places, cells, row);
@@ -73,9 +73,9 @@ fn start<S: Source, E: Entry>(source: &S, places: &Places, cells: &mut [E])
 
 // Raises the entry between a link's ends.
 fn raise_between<E: Entry>(places: &Places, cells: &mut [E], link: &Link, by: E)
-    requires in_bounds { (1024 ≤ length cells.old) × ((link.now.from < 32) × (link.now.to < 32)) }
-    requires from_bound { (position places.now link.now.from < 32) × (position places.now link.now.to < 32) }
-    ensures { RaisedAt neutral under (position places.now link.now.from) (position places.now link.now.to) by cells.old cells.new }
+    requires room { (1024 ≤ length cells.old) × ((link.now.from < 32) × (link.now.to < 32)) }
+    requires positions { (position places.now link.now.from < 32) × (position places.now link.now.to < 32) }
+    ensures { RaisedAt E.neutral E.under (position places.now link.now.from) (position places.now link.now.to) by cells.old cells.new }
 {
     let from = places.positions[link.from as usize] as usize;
     let to = places.positions[link.to as usize] as usize;
@@ -84,9 +84,9 @@ fn raise_between<E: Entry>(places: &Places, cells: &mut [E], link: &Link, by: E)
 
 // Raises the entry of the link with a code, if there is one.
 fn raise_link<S: Source, E: Entry>(source: &S, places: &Places, cells: &mut [E], code: u16)
-    requires in_bounds { (1024 ≤ length cells.old) × (IsPlaces (S.Source.sheet source.now).told places.now) }
-    requires filled_to { FilledTo neutral sum value under within (S.Source.sheet source.now).told places.now code cells.old }
-    ensures { FilledTo neutral sum value under within (S.Source.sheet source.now).told places.now (code + 1) cells.new }
+    requires room { (1024 ≤ length cells.old) × (IsPlaces (S.Source.sheet source.now).told places.now) }
+    requires filled { FilledTo E.neutral E.sum E.value E.under E.within (S.Source.sheet source.now).told places.now code cells.old }
+    ensures { FilledTo E.neutral E.sum E.value E.under E.within (S.Source.sheet source.now).told places.now (code + 1) cells.new }
 {
     if let Some(link) = link_with_code(source, code) {
         let by = E::of_link(&link, source.period());
@@ -97,7 +97,7 @@ fn raise_link<S: Source, E: Entry>(source: &S, places: &Places, cells: &mut [E],
 // Fills the chart: every pair of positions has an entry, and every link is under its own.
 pub(crate) fn fill<S: Source, E: Entry>(source: &S, places: &Places, cells: &mut [E])
     requires { (1024 ≤ length cells.old) × (IsPlaces (S.Source.sheet source.now).told places.now) }
-    ensures { FilledTo neutral sum value under within (S.Source.sheet source.now).told places.now 432 cells.new }
+    ensures { FilledTo E.neutral E.sum E.value E.under E.within (S.Source.sheet source.now).told places.now 432 cells.new }
 {
     start(source, places, cells);
     for code in 0..CODES {

@@ -4,16 +4,17 @@ use Rattle.chart.proofs.cells.process.Goals as goal
 
 pub stage-requires : goal.stage-requires
 stage-requires g c =
-    let m = g.E.Entry in (
-      (omega arith, (omega arith, omega arith)),
-      (
-        m.laws.antisymmetric _ _ c.requires.1.0 c.requires.1.1,
-        short_limit m.laws c.args.count c.args.by _ (omega arith) c.requires.2,
-      ),
-    )
+    let m = g.E.Entry in
+    record {
+      room = (omega arith, (omega arith, omega arith));
+      settled = (
+        m.laws.antisymmetric _ _ c.requires.neutral_turn.0 c.requires.neutral_turn.1,
+        short_limit m.laws c.args.count c.args.by _ (omega arith) c.requires.short,
+      );
+    }
 
 pub returns : goal.returns
 returns g c =
     let m = g.E.Entry in
     λ xs done. closed_more m.laws c.args.count c.args.by xs c.args.cells.now _ (omega arith)
-    (m.laws.antisymmetric _ _ c.requires.1.0 c.requires.1.1) c.stage.ensures done
+    (m.laws.antisymmetric _ _ c.requires.neutral_turn.0 c.requires.neutral_turn.1) c.stage.ensures done

@@ -6,13 +6,14 @@ use Rattle.chart.proofs.cells.raise_row.Goals as goal
 pub relax-requires : goal.relax-requires
 relax-requires g c =
     let m = g.E.Entry in
-    let still = c.loop-b.invariant.rest c.args.by c.loop-b.b (omega arith) (λ e h. omega arith) in (
-      (omega arith, (omega arith, (omega arith, omega arith))),
-      (
-        subst (m.within limit) (sym c.get-to.ensures) c.requires.1.0,
-        subst (m.within limit) (sym still) (c.requires.1.1 c.loop-b.b (omega arith)),
-      ),
-    )
+    let still = c.loop-b.invariant.rest c.args.by c.loop-b.b (omega arith) (λ e h. omega arith) in
+    record {
+      room = (omega arith, (omega arith, (omega arith, omega arith)));
+      within = (
+        subst (m.within limit) (sym c.get-to.ensures) c.requires.within.0,
+        subst (m.within limit) (sym still) (c.requires.within.1 c.loop-b.b (omega arith)),
+      );
+    }
 
 pub loop-b-preserved : goal.loop-b-preserved
 loop-b-preserved g c =

@@ -10,5 +10,5 @@ loop-b-preserved g c =
     subst
     (StartedTo m.neutral m.sum m.value m.under m.within sheet.told c.args.places.now c.args.row (c.loop-b.b + 1))
     (sym c.put.ensures)
-    (started_more m.laws sheet c.args.places.now c.requires.0.1 c.args.row c.loop-b.b c.loop-b.cells _ c.requires.1
-    (omega arith) (omega arith) c.loop-b.invariant c.first-entry-entry.ensures)
+    (started_more m.laws sheet c.args.places.now c.requires.room.1 c.args.row c.loop-b.b c.loop-b.cells _ c.requires.row_below
+    (omega arith) (omega arith) c.loop-b.invariant c.first_entry-entry.ensures)

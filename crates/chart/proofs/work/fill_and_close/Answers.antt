@@ -6,10 +6,11 @@ use Rattle.chart.proofs.work.fill_and_close.Goals as goal
 pub close-requires : goal.close-requires
 close-requires g c =
     let sheet = g.S.Source.sheet c.args.source.now in
-    let is = c.of-places.ensures in (
-      (omega arith, is.few),
-      filled_closed g.E.Entry.laws sheet c.of-places.result is _ c.fill.ensures,
-    )
+    let is = c.of-places.ensures in
+    record {
+      room = (omega arith, is.few);
+      closed = filled_closed g.E.Entry.laws sheet c.of-places.result is _ c.fill.ensures;
+    }
 
 pub returns-in-None : goal.returns-in-None
 returns-in-None g c =

@@ -4,6 +4,6 @@ use Rattle.chart.proofs.work.use_front.Goals as goal
 
 pub returns : goal.returns
 returns g c =
-    worked_in_front g.E.Entry.laws _ c.args.cells.now c.fill-and-close.new.cells c.requires
-    (c.fill-and-close.auto.cells ∙ length-take-le 1024 c.args.cells.now c.requires) c.fill-and-close.result
-    c.fill-and-close.ensures
+    worked_in_front g.E.Entry.laws _ c.args.cells.now c.fill_and_close.new.cells c.requires
+    (c.fill_and_close.auto.cells ∙ length-take-le 1024 c.args.cells.now c.requires) c.fill_and_close.result
+    c.fill_and_close.ensures

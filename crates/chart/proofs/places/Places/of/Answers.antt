@@ -3,19 +3,19 @@ use Rattle.sheet.specs.Sheets.{present}
 use Rattle.chart.specs.Positions.{PlacesTo}
 use Rattle.chart.proofs.Collecting.{step_there, places_skip, places_more}
 use Rattle.chart.proofs.places.Places.of.Goals as goal
-use Rattle.chart.proofs.places.Places.of.Goals.{then-is-some, else-is-some}
+use Rattle.chart.proofs.places.Places.of.Goals.{then-is_some, else-is_some}
 
 pub loop-v-preserved : goal.loop-v-preserved
 loop-v-preserved g c =
     let s = (g.S.Source.sheet c.args.source.now).told in
     let v = c.loop-v.v in
-    let is : present s v ≡ c.is-some.result
-    = step_there s v (omega arith) ∙ ap is_some (sym c.step.ensures) ∙ sym c.is-some.ensures in
-    elim c.if-is-some.branch [
-      | then-is-some w ↦
+    let is : present s v ≡ c.is_some.result
+    = step_there s v (omega arith) ∙ ap is_some (sym c.step.ensures) ∙ sym c.is_some.ensures in
+    elim c.if-is_some.branch [
+      | then-is_some w ↦
           subst (PlacesTo s (c.loop-v.v + 1)) (sym w.places-is)
-          (places_more s v c.loop-v.places c.loop-v.invariant (omega arith) (is ∙ w.if-is-some.true))
-      | else-is-some w ↦
+          (places_more s v c.loop-v.places c.loop-v.invariant (omega arith) (is ∙ w.if-is_some.true))
+      | else-is_some w ↦
           subst (PlacesTo s (c.loop-v.v + 1)) (sym w.places-is)
-          (places_skip s v c.loop-v.places c.loop-v.invariant (is ∙ w.if-is-some.false))
+          (places_skip s v c.loop-v.places c.loop-v.invariant (is ∙ w.if-is_some.false))
     ]
