@@ -80,7 +80,7 @@ fn least_period<S: Source>(source: &S, hours: &mut [Hours]) -> u16
 
 // The codes of a loop at the longest period, where there is no lawful timetable.
 fn loop_codes<S: Source>(source: &S, counted: &mut [Counted], codes: &mut [u16]) -> usize
-    requires in_bounds { (1024 ≤ length counted.old) × (32 ≤ length codes.old) }
+    requires room { (1024 ≤ length counted.old) × (32 ≤ length codes.old) }
     requires fails { Fails (S.Source.sheet source.now).told 999 }
     ensures kept { RestKept counted.old counted.new }
     ensures codes { LoopWritten (at_period (S.Source.sheet source.now).told 999) codes.old codes.new result }
@@ -102,8 +102,8 @@ fn bound_or_loop<S: Source>(
     counted: &mut [Counted],
     codes: &mut [u16],
 ) -> Result<u16, BoundRefusal>
-    requires { Room (record { hours = hours.now; counted = counted.old; codes = codes.old }) }
-    ensures { Bounded (S.Source.sheet source.now).told (record { hours = hours.entry.now; counted = counted.old; codes = codes.old }) (record { hours = hours.exit.now; counted = counted.new; codes = codes.new }) result }
+    requires { Room (record { hours = hours.old; counted = counted.old; codes = codes.old }) }
+    ensures { Bounded (S.Source.sheet source.now).told (record { hours = hours.old; counted = counted.old; codes = codes.old }) (record { hours = hours.new; counted = counted.new; codes = codes.new }) result }
 {
     if works_at(source, LONGEST, hours) {
         Ok(least_period(source, hours))
@@ -121,7 +121,7 @@ pub fn period_bound<S: Source>(
     counted: &mut [Counted],
     codes: &mut [u16],
 ) -> Result<u16, BoundRefusal>
-    ensures { Bounded (S.Source.sheet source.now).told (record { hours = hours.entry.now; counted = counted.old; codes = codes.old }) (record { hours = hours.exit.now; counted = counted.new; codes = codes.new }) result }
+    ensures { Bounded (S.Source.sheet source.now).told (record { hours = hours.old; counted = counted.old; codes = codes.old }) (record { hours = hours.new; counted = counted.new; codes = codes.new }) result }
 {
     if hours.len() < 1024 || counted.len() < 1024 || codes.len() < 32 {
         return Err(BoundRefusal::TooShort);

@@ -1,6 +1,6 @@
 -- Entries of a worked chart against runs of links: a run over processed places comes to no more than its entry, and some
 -- first link accounts for an entry exactly. Assumes nothing.
-use Rattle.std.proofs.Common.{◌≡◌, ℕ, zero, suc, ◌+◌, ◌<◌, ◌≤◌, max, true, ◌⊎◌, List, [], ◌∷◌, sym, refl, ap, ◌∙◌, subst, inl, inr, ⊎_elim, arith}
+use Rattle.std.proofs.Common.{◌≡◌, ℕ, ◌<◌, ◌≤◌, ◌⊎◌, List, [], ◌∷◌, sym, refl, ap, ◌∙◌, subst, inl, inr, ⊎_elim, arith}
 use Rattle.std.proofs.lemmas.Bool.{cases_lt, false≢true}
 use Rattle.sheet.specs.declared.forms.Link.{Link}
 use Rattle.sheet.specs.Sheets.{RuleSheet, HasStep}
@@ -11,7 +11,7 @@ use Rattle.chart.specs.declared.places.Places.{Places}
 use Rattle.chart.specs.Laws.{Laws}
 use Rattle.chart.specs.Cells as cells
 use Rattle.chart.specs.Positions.{place, position, IsPlaces}
-use Rattle.chart.specs.Runs.{Through, Processed, worth, MadeOf, Worked}
+use Rattle.chart.specs.Runs.{Through, Processed, worth, Worked}
 use Rattle.chart.proofs.Joining.{through_more}
 use Rattle.chart.proofs.Stages.{both}
 use Rattle.chart.proofs.Filling.{ends_low}

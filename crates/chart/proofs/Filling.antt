@@ -1,16 +1,16 @@
 -- Filling the chart of a sheet. Assumes nothing.
-use Rattle.std.proofs.Common.{◌≡◌, ℕ, ◌+◌, ◌*◌, ◌<◌, ◌≤◌, true, ◌⊎◌, List, length, set, pos, ◌-ℤ◌, Some, None, Option, sym, refl, ap, ◌∙◌, subst, inl, inr, ⊎_elim, arith}
+use Rattle.std.proofs.Common.{◌≡◌, ℕ, ◌+◌, ◌*◌, ◌<◌, ◌≤◌, ◌⊎◌, List, length, set, Some, sym, refl, ap, ◌∙◌, subst, inl, inr, ⊎_elim, arith}
 use Rattle.std.proofs.lemmas.Bool.{cases_lt, cases_eq}
 use Rattle.sheet.specs.declared.forms.Link.{Link}
-use Rattle.sheet.specs.Sheets.{RuleSheet, Present, HasStep}
-use Rattle.sheet.specs.Limits.{Sound, SoundSheet}
+use Rattle.sheet.specs.Sheets.{RuleSheet, HasStep}
+use Rattle.sheet.specs.Limits.{SoundSheet}
 use Rattle.sheet.specs.Links.{IsLink, floor, ceiling}
-use Rattle.walks.specs.Codes.{Tells, link_of}
+use Rattle.walks.specs.Codes.{link_of}
 use Rattle.walks.proofs.LinkLaws.{link_ends}
 use Rattle.walks.proofs.Short.{present_below}
-use Rattle.walks.proofs.CodeLaws.{link_read, codes_apart, code_below}
+use Rattle.walks.proofs.CodeLaws.{link_read, codes_apart}
 use Rattle.chart.specs.declared.places.Places.{Places}
-use Rattle.chart.specs.Laws.{Laws, Raised}
+use Rattle.chart.specs.Laws.{Laws}
 use Rattle.chart.specs.Cells.{at, RaisedAt, ClosedTo}
 use Rattle.chart.specs.Positions.{place, position, IsPlaces}
 use Rattle.chart.specs.Runs.{MadeOf, Start, Edge, StartedTo, FilledTo}

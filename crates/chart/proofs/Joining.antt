@@ -1,12 +1,12 @@
 -- Runs of links and what they come to. Assumes nothing.
-use Rattle.std.proofs.Common.{◌≡◌, ℕ, ◌<◌, ◌≤◌, max, List, [], ◌∷◌, ◌++◌, sym, refl, ap, ◌∙◌, subst, arith}
+use Rattle.std.proofs.Common.{◌≡◌, ℕ, ◌≤◌, List, [], ◌∷◌, ◌++◌, sym, ap, ◌∙◌, subst, arith}
 use Rattle.sheet.specs.declared.forms.Link.{Link}
 use Rattle.sheet.specs.Sheets.{RuleSheet}
 use Rattle.sheet.specs.Links.{IsLink, Run}
 use Rattle.walks.proofs.RunLaws.{run_join}
 use Rattle.chart.specs.declared.places.Places.{Places}
 use Rattle.chart.specs.Laws.{Laws}
-use Rattle.chart.specs.Positions.{place, position}
+use Rattle.chart.specs.Positions.{place}
 use Rattle.chart.specs.Runs.{Through, Processed, worth, MadeOf}
 
 pub through_join : (P : ℕ → Type 0) (s : RuleSheet) (i k : ℕ) (xs ys : List Link) → Run s i k xs → P k

@@ -1,13 +1,12 @@
 -- What a filled and closed chart tells of its sheet. Assumes nothing.
-use Rattle.std.proofs.Common.{◌≡◌, ℕ, ◌+◌, ◌^◌, ◌<◌, ◌≤◌, List, [], ◌∷◌, sym, refl, ap, ◌∙◌, subst, arith, pow_mono}
+use Rattle.std.proofs.Common.{ℕ, ◌+◌, ◌^◌, ◌<◌, ◌≤◌, List, arith, pow_mono}
 use Rattle.sheet.specs.declared.forms.Link.{Link}
 use Rattle.sheet.specs.Limits.{SoundSheet}
-use Rattle.sheet.specs.Links.{IsLink}
 use Rattle.walks.proofs.CodeLaws.{code_below}
 use Rattle.chart.specs.declared.places.Places.{Places}
 use Rattle.chart.specs.Laws.{Laws}
-use Rattle.chart.specs.Cells.{at, Made, first, over, ClosedTo}
-use Rattle.chart.specs.Positions.{place, position, IsPlaces}
+use Rattle.chart.specs.Cells.{Made, first, over, ClosedTo}
+use Rattle.chart.specs.Positions.{IsPlaces}
 use Rattle.chart.specs.Runs.{MadeOf, FilledTo, Worked}
 use Rattle.chart.proofs.Joining.{made_join, made_later}
 use Rattle.chart.proofs.Filling.{ends_low}

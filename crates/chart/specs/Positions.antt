@@ -1,5 +1,5 @@
 -- Which place of a sheet each position of a working chart stands for. Assumes nothing.
-use Rattle.std.specs.Prelude.{◌≡◌, ℕ, ◌<◌, ◌≤◌, List, length, slice_index}
+use Rattle.std.specs.Prelude.{◌≡◌, ℕ, ◌<◌, ◌≤◌, length, slice_index}
 use Rattle.sheet.specs.Sheets.{RuleSheet, Present}
 use Rattle.chart.specs.declared.places.Places.{Places}
 

@@ -62,7 +62,7 @@ fn write_from_front<S: Source>(
     stop: usize,
     codes: &mut [u16],
 ) -> usize
-    requires in_bounds { (1024 ≤ length cells.now) × (32 ≤ length codes.old) }
+    requires room { (1024 ≤ length cells.now) × (32 ≤ length codes.old) }
     requires stopped { Stopped (S.Source.sheet source.now).told places.now stop (take 1024 cells.now) }
     ensures { LoopWritten (S.Source.sheet source.now).told codes.old codes.new result }
 {

@@ -127,7 +127,7 @@ pub(crate) fn next_link<S: Source>(
     here: usize,
 ) -> Link
     requires stopped { (Stopped (S.Source.sheet source.now).told places.now stop cells.now) × (here < places.now.count) }
-    requires links_nonzero { 0 < (entry_at no_link cells.now here stop).links }
+    requires links { 0 < (entry_at no_link cells.now here stop).links }
     ensures link { IsLink (S.Source.sheet source.now).told result }
     ensures accounts { Accounts (S.Source.sheet source.now).told.period places.now stop here cells.now result }
 {

@@ -85,7 +85,7 @@ fn write_chart<S: Source>(source: &S, places: &Places, cells: &[Hours], chart: &
 
 // Writes the chart from the working chart that stands in the first 1,024 entries of a buffer.
 fn write_from_front<S: Source>(source: &S, places: &Places, cells: &[Hours], chart: &mut [i16])
-    requires in_bounds { (1024 ≤ length cells.now) × (1024 ≤ length chart.old) }
+    requires room { (1024 ≤ length cells.now) × (1024 ≤ length chart.old) }
     requires closes { Closes no_hours hours_sum link_hours HoursUnder AloneWithin (S.Source.sheet source.now).told (take 1024 cells.now) places.now }
     ensures { ChartWritten (S.Source.sheet source.now).told chart.old chart.new }
 {
@@ -94,8 +94,8 @@ fn write_from_front<S: Source>(source: &S, places: &Places, cells: &[Hours], cha
 
 // The codes of a loop of a sheet that has no lawful timetable.
 fn loop_codes<S: Source>(source: &S, counted: &mut [Counted], codes: &mut [u16]) -> usize
-    requires in_bounds { (1024 ≤ length counted.old) × (32 ≤ length codes.old) }
-    requires fact { (t : Timetable) → Lawful (S.Source.sheet source.now).told t → ⊥ }
+    requires room { (1024 ≤ length counted.old) × (32 ≤ length codes.old) }
+    requires none { (t : Timetable) → Lawful (S.Source.sheet source.now).told t → ⊥ }
     ensures kept { RestKept counted.old counted.new }
     ensures codes { LoopWritten (S.Source.sheet source.now).told codes.old codes.new result }
 {
@@ -145,8 +145,8 @@ fn chart_or_loop<S: Source>(
     chart: &mut [i16],
     codes: &mut [u16],
 ) -> Result<(), ChartRefusal>
-    requires { Room (record { hours = hours.now; counted = counted.old; chart = chart.old; codes = codes.old }) }
-    ensures { Charted (S.Source.sheet source.now).told (record { hours = hours.entry.now; counted = counted.old; chart = chart.old; codes = codes.old }) (record { hours = hours.exit.now; counted = counted.new; chart = chart.new; codes = codes.new }) result }
+    requires { Room (record { hours = hours.old; counted = counted.old; chart = chart.old; codes = codes.old }) }
+    ensures { Charted (S.Source.sheet source.now).told (record { hours = hours.old; counted = counted.old; chart = chart.old; codes = codes.old }) (record { hours = hours.new; counted = counted.new; chart = chart.new; codes = codes.new }) result }
 {
     match chart_or_none(source, hours, chart) {
         Ok(()) => Ok(()),
@@ -166,7 +166,7 @@ pub fn wait_chart<S: Source>(
     chart: &mut [i16],
     codes: &mut [u16],
 ) -> Result<(), ChartRefusal>
-    ensures { Charted (S.Source.sheet source.now).told (record { hours = hours.entry.now; counted = counted.old; chart = chart.old; codes = codes.old }) (record { hours = hours.exit.now; counted = counted.new; chart = chart.new; codes = codes.new }) result }
+    ensures { Charted (S.Source.sheet source.now).told (record { hours = hours.old; counted = counted.old; chart = chart.old; codes = codes.old }) (record { hours = hours.new; counted = counted.new; chart = chart.new; codes = codes.new }) result }
 {
     if hours.len() < 1024 || counted.len() < 1024 || chart.len() < 1024 || codes.len() < 32 {
         return Err(ChartRefusal::TooShort);

@@ -1,4 +1,4 @@
-use Rattle.std.proofs.Common.{◌≡◌, sym, ◌∙◌, subst, arith}
+use Rattle.std.proofs.Common.{sym, subst, arith}
 use Rattle.chart.specs.Laws.{limit}
 use Rattle.chart.proofs.Raising.{mid_row, stage_more}
 use Rattle.chart.proofs.cells.stage.Goals as goal

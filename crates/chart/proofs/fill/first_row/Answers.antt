@@ -1,4 +1,4 @@
-use Rattle.std.proofs.Common.{◌≡◌, ◌+◌, sym, subst, arith}
+use Rattle.std.proofs.Common.{◌+◌, sym, subst, arith}
 use Rattle.chart.specs.Runs.{StartedTo}
 use Rattle.chart.proofs.Filling.{started_more}
 use Rattle.chart.proofs.fill.first_row.Goals as goal

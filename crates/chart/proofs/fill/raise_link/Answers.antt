@@ -1,4 +1,4 @@
-use Rattle.std.proofs.Common.{◌≡◌, ◌+◌, ◌<◌, ◌≤◌, Some, None, sym, refl, ap, ◌∙◌, subst, arith}
+use Rattle.std.proofs.Common.{Some, None, ap, ◌∙◌, arith}
 use Rattle.walks.proofs.CodeLaws.{told_as}
 use Rattle.chart.proofs.Filling.{ends_low, filled_skip, filled_more}
 use Rattle.chart.proofs.fill.raise_link.Goals as goal
