@@ -7,5 +7,5 @@ loop-code-preserved g c =
     λ l link low account.
     ⊎_elim
     (λ below. c.loop-code.invariant l link below account)
-    (λ above. c.in-default.ensures l link (omega arith) account)
+    (λ above. c.in_default.ensures l link (omega arith) account)
     (cases_lt l.code c.loop-code.code)

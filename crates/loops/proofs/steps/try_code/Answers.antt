@@ -8,12 +8,15 @@ use Rattle.loops.proofs.steps.try_code.Goals as goal
 pub accounts-requires : goal.accounts-requires
 accounts-requires g c =
     let sheet = g.S.Source.sheet c.args.source.now in
-    (c.requires, (told_as sheet.told sheet.sound c.args.code (Some c.in-Some.link) c.in-Some.ensures).0)
+    record {
+      stopped = c.requires;
+      link = (told_as sheet.told sheet.sound c.args.code (Some c.in-Some.link) c.in-Some.ensures).0;
+    }
 
-pub returns-in-default : goal.returns-in-default
-returns-in-default g c =
+pub returns-in_default : goal.returns-in_default
+returns-in_default g c =
     let sheet = g.S.Source.sheet c.args.source.now in
-    λ l link same account. told_as sheet.told sheet.sound c.args.code None c.in-default.ensures l link same
+    λ l link same account. told_as sheet.told sheet.sound c.args.code None c.in_default.ensures l link same
 
 pub returns-then-accounts : goal.returns-then-accounts
 returns-then-accounts g c =
