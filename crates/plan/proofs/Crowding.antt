@@ -1,7 +1,7 @@
 -- Which classes a step covers, and how many steps cover a class. Assumes nothing.
 use Rattle.std.proofs.Common.{◌≡◌, ℕ, ◌+◌, ◌-◌, ◌%◌, ◌<◌, ◌≤◌, eqb, ltb, ◌⊎◌, List, length, get_or, take, drop, set, Decides, MatchBool, sym, refl, ap, ◌∙◌, subst, inl, inr, ⊎_elim, add-zero, mod-eq_of_lt, arith, below_more}
 use Rattle.std.proofs.lemmas.List.FromFn.{fill_by_all}
-use Rattle.std.proofs.lemmas.List.{drop-drop, drop-set-lt, get_or_take, length-take-le, get_or-set_same, get_or-set_other}
+use Rattle.std.proofs.lemmas.List.{drop-drop, drop-set-lt, get_or-take, length-take-le, get_or-set_same, get_or-set_other}
 use Rattle.std.proofs.lemmas.Bool.{cases_Bool, ltb-true, ltb-false}
 use Rattle.std.proofs.lemmas.Bool.Decides.{Decides-eqb, Decides-below_or, same_from_decides}
 use Rattle.choose.specs.Classes.{class, Covers}
@@ -67,4 +67,4 @@ rest_more xs old i new same = drop-set-lt (i + 1) xs i new (omega arith) ∙ sym
 -- all classes
 pub counted_all : (period kind : ℕ) (placed : List Placed) (xs : List ℕ) → period ≤ length xs → ((k : ℕ) → k < period → get_or xs k 0 ≡ crowd period kind placed k) → take period xs ≡ crowds period kind placed
 counted_all period kind placed xs room each =
-    fill_by_all (crowd period kind placed) (take period xs) period 0 (length-take-le period xs room) (λ k low. get_or_take period xs k 0 low ∙ each k low)
+    fill_by_all (crowd period kind placed) (take period xs) period 0 (length-take-le period xs room) (λ k low. get_or-take period xs k 0 low ∙ each k low)

@@ -1,6 +1,6 @@
 -- The windows with nothing placed. Assumes nothing.
 use Rattle.std.proofs.Common.{◌≡◌, ℕ, ◌+◌, ◌*◌, ◌<◌, List, length, get_or, take, set, ℤ, pos, neg_ℤ, is_some, Some, None, Option, sym, ap, ◌∙◌, subst, arith, below_more}
-use Rattle.std.proofs.lemmas.List.{get_or_take, get_or-set_same, get_or-set_other}
+use Rattle.std.proofs.lemmas.List.{get_or-take, get_or-set_same, get_or-set_other}
 use Rattle.plan.specs.Told.{Tells}
 use Rattle.plan.specs.declared.window.Window.{Window}
 use Rattle.sheet.specs.Limits.{SoundSheet}
@@ -14,7 +14,7 @@ use Rattle.windows.proofs.Waited.{present_below}
 
 -- the entries at the front of a buffer
 pub entry_front : (chart : List ℤ) (i j : ℕ) → i < 32 → j < 32 → entry (take 1024 chart) i j ≡ entry chart i j
-entry_front chart i j row column = get_or_take 1024 chart (32 * i + j) (pos 0) (omega arith)
+entry_front chart i j row column = get_or-take 1024 chart (32 * i + j) (pos 0) (omega arith)
 
 pub tells_open : (sheet : SoundSheet) (chart : List ℤ) (n : ℕ) (told : ℕ × ℕ) (w : Window) → IsChart sheet.told (take 1024 chart) → step_at sheet.told n ≡ Some told → w.first ≡ entry chart 0 n → w.last ≡ neg_ℤ (entry chart n 0) → Tells sheet.told nothing_placed n (Some w)
 tells_open sheet chart n told w is step first last =

@@ -1,6 +1,6 @@
 -- From steps filled in to a plan written. Assumes nothing.
 use Rattle.std.proofs.Common.{◌≡◌, ℕ, ◌<◌, ◌≤◌, List, ◌++◌, length, get_or, take, drop, ℤ, is_some, Some, None, Err, Option, unwrap_or, sym, refl, ap, ◌∙◌, subst, arith}
-use Rattle.std.proofs.lemmas.List.{length-take-le, length-map, get_or_take, get_or-map, take-append-drop, ext_get_or}
+use Rattle.std.proofs.lemmas.List.{length-take-le, length-map, get_or-take, get_or-map, take-append-drop, ext_get_or}
 use Rattle.std.proofs.lemmas.Bool.{true≢false, false≢true}
 use Rattle.choose.specs.Choosing.{HourRule}
 use Rattle.plan.specs.Plans.{CountsFit, start_hours, Settled, Written, Wrote, Buffers, Room, Planned, of_chart}
@@ -29,7 +29,7 @@ starts_written placed old new long room each rest =
     ext_get_or 0 (take 31 new) (start_hours placed) (omega arith)
     (λ i low.
     let inside : i < 31 = omega arith in
-    get_or_take 31 new i 0 inside ∙ each i inside ∙ sym (get_or-map (λ (step : Placed). step.start) placed i (record { start = 0; duration = 0; kind = 0 }) 0 (omega arith))) in
+    get_or-take 31 new i 0 inside ∙ each i inside ∙ sym (get_or-map (λ (step : Placed). step.start) placed i (record { start = 0; duration = 0; kind = 0 }) 0 (omega arith))) in
     sym (take-append-drop 31 new) ∙ ap (λ xs. xs ++ drop 31 new) front ∙ ap (λ xs. start_hours placed ++ xs) rest
 
 pub settled : (s : RuleSheet) (rule : HourRule) (stock : List ℕ) (placed : List Placed) (outcome : Outcome) → Filled s rule placed → GivesOut s.period stock placed outcome → Settled s rule stock placed outcome

@@ -1,6 +1,6 @@
 -- The entries of the wait chart, read off a finished working chart. Assumes nothing.
 use Rattle.std.proofs.Common.{◌≡◌, ℕ, ◌+◌, ◌*◌, ◌/◌, ◌%◌, ◌<◌, ◌≤◌, true, false, ◌&&◌, List, length, get_or, take, drop, set, ℤ, pos, neg_ℤ, ◌≤ℤ◌, Err, sym, refl, ap, ◌∙◌, subst, ⊎_elim, arith}
-use Rattle.std.proofs.lemmas.List.{get_or_take, length-take-le, get_or-set_same, get_or-set_other, drop-set-lt, drop-drop}
+use Rattle.std.proofs.lemmas.List.{get_or-take, length-take-le, get_or-set_same, get_or-set_other, drop-set-lt, drop-drop}
 use Rattle.std.proofs.lemmas.Bool.{and_from, true≢false, cases_lt}
 use Rattle.chart.specs.Cells.{at}
 use Rattle.chart.specs.Positions.{position}
@@ -70,7 +70,7 @@ whole_chart s before after room entries rest = record {
         let low : m < 1024 = omega arith in
         let row : m / 32 ≡ i = omega arith in
         let column : m % 32 ≡ j = omega arith in
-        subst (IsEntry s i j) (sym (get_or_take 1024 after m (pos 0) low))
+        subst (IsEntry s i j) (sym (get_or-take 1024 after m (pos 0) low))
         (subst (λ b. IsEntry s i b (get_or after m (pos 0))) column (subst (λ a. IsEntry s a (m % 32) (get_or after m (pos 0))) row (entries m low)));
   };
   rest = rest;

@@ -2,4 +2,4 @@ use mathlib.Core.Logic.{∥∥₁_elim}
 use Rattle.bound.proofs.loop_codes.Goals as goal
 
 pub unreachable-requires-in-NoLoop : goal.unreachable-requires-in-NoLoop
-unreachable-requires-in-NoLoop g c = ∥∥₁_elim c.in-NoLoop.ensures.0 (λ x y. absurd x) (λ some. c.requires.1 some.0 some.1)
+unreachable-requires-in-NoLoop g c = ∥∥₁_elim c.in-NoLoop.ensures.0 (λ x y. absurd x) (λ some. c.requires.fails some.0 some.1)
