@@ -1,13 +1,13 @@
 -- The least period with a lawful timetable is the period bound. Assumes nothing.
-use Rattle.std.proofs.Common.{◌≡◌, ℕ, ◌+◌, ◌-◌, ◌*◌, ◌<◌, ◌≤◌, true, false, ◌⊎◌, List, [], ◌∷◌, length, take, ℤ, pos, ◌-ℤ◌, ◌≤ℤ◌, ◌<ℤ◌, is_ok, Ok, Err, Result, sym, refl, ap, ◌∙◌, subst, inl, inr, ⊎_elim, mul_comm, mul-zero, arith}
-use mathlib.Core.Logic.{∥∥₁_elim, ∥∥₁_map}
+use Rattle.std.proofs.Common.{◌≡◌, ℕ, ◌+◌, ◌-◌, ◌*◌, ◌<◌, ◌≤◌, true, false, ◌⊎◌, List, [], ◌∷◌, length, take, pos, ◌-ℤ◌, ◌≤ℤ◌, ◌<ℤ◌, is_ok, Ok, Err, Result, refl, ap, ◌∙◌, subst, inl, inr, ⊎_elim, mul_comm, mul-zero, arith}
+use mathlib.Core.Logic.{∥∥₁_elim}
 use Rattle.std.proofs.lemmas.Int.{ints, by_lt_z}
 use Rattle.std.proofs.lemmas.Bool.{cases_lt, true≢false, false≢true}
 use Rattle.chart.specs.Runs.{WorkedOut}
 use Rattle.chart.specs.declared.places.Places.{Places}
 use Rattle.chart.specs.declared.places.Stop.{Stop}
 use Rattle.chart.specs.declared.places.Stop.TheVariants.{Short, Beaten}
-use Rattle.kinds.proofs.Measures.{closed_matrix, heavy_run, HeavyRun}
+use Rattle.kinds.proofs.Measures.{closed_matrix, heavy_run}
 use Rattle.kinds.proofs.Weighing.{hours_alone}
 use Rattle.kinds.specs.Alone.{no_hours, hours_sum, HoursUnder, AloneWithin, link_hours}
 use Rattle.kinds.specs.declared.alone.Hours.{Hours}
@@ -18,12 +18,10 @@ use Rattle.sheet.specs.Sheets.{RuleSheet}
 use Rattle.sheet.specs.Timetables.{Timetable, Lawful}
 use Rattle.sheet.specs.Waits.{IsBound}
 use Rattle.sheet.specs.declared.forms.Link.{Link}
-use Rattle.walks.proofs.LinkLaws.{links_hold}
 use Rattle.walks.proofs.LoopLaws.{heavy_loop}
 use Rattle.walks.proofs.Periods.{longer_keeps}
 use Rattle.walks.proofs.Potentials.{row_lawful}
-use Rattle.walks.proofs.RunLaws.{along, no_lawful, weight_by_parts}
-use Rattle.walks.specs.Theorems.{HeavyLoop}
+use Rattle.walks.proofs.RunLaws.{no_lawful, weight_by_parts}
 use Rattle.loops.specs.Loops.{RestKept}
 use Rattle.bound.specs.Bounds.{Works, Fails, Blocked, Least}
 

@@ -1,17 +1,16 @@
 -- What a worked chart tells in hours, for every kind of entry that tells hours. Assumes nothing.
-use Rattle.std.proofs.Common.{◌≡◌, ℕ, ◌+◌, ◌<◌, ◌≤◌, List, [], ◌∷◌, ℤ, pos, ◌+ℤ◌, ◌≤ℤ◌, sym, refl, ap, ◌∙◌, subst, arith}
+use Rattle.std.proofs.Common.{◌≡◌, ℕ, ◌<◌, List, [], ◌∷◌, ℤ, pos, ◌+ℤ◌, ◌≤ℤ◌, sym, ap, ◌∙◌, subst, arith}
 use Rattle.std.proofs.lemmas.Int.{ints}
 use Rattle.sheet.specs.declared.forms.Link.{Link}
 use Rattle.sheet.specs.Sheets.{RuleSheet, Present}
 use Rattle.sheet.specs.Limits.{SoundSheet}
-use Rattle.sheet.specs.Links.{IsLink, Run, weight, run_weight}
+use Rattle.sheet.specs.Links.{Run, weight, run_weight}
 use Rattle.walks.specs.Matrices.{Matrix, Closed, MadeOfRuns}
 use Rattle.walks.proofs.Short.{present_below}
 use Rattle.chart.specs.declared.places.Places.{Places}
-use Rattle.chart.specs.Laws.{Laws}
 use Rattle.chart.specs.Cells.{at}
 use Rattle.chart.specs.Positions.{place, position, IsPlaces}
-use Rattle.chart.specs.Runs.{worth, MadeOf, Worked}
+use Rattle.chart.specs.Runs.{worth, Worked}
 
 -- A kind of entry tells hours: they add up along a run, more hours never rank lower, and what beats the neutral entry
 -- has at least one.

@@ -1,7 +1,6 @@
 -- Both kinds of entry tell hours. Assumes nothing.
-use Rattle.std.proofs.Common.{◌≡◌, ℕ, ◌+◌, ◌≤◌, ◌⊎◌, ℤ, pos, ◌+ℤ◌, ◌≤ℤ◌, ◌<ℤ◌, sym, refl, ap, ◌∙◌, subst, inl, inr, ⊎_elim, arith}
+use Rattle.std.proofs.Common.{◌≡◌, pos, ◌≤ℤ◌, refl, inl, inr, arith}
 use Rattle.std.proofs.lemmas.Int.{ints, by_lt_z}
-use Rattle.kinds.specs.declared.alone.Hours.{Hours}
 use Rattle.kinds.specs.declared.together.Counted.{Counted}
 use Rattle.kinds.specs.Alone.{no_hours, hours_sum, HoursUnder, link_hours}
 use Rattle.kinds.specs.Together.{no_link, counted_sum, RanksUnder, one_link}

@@ -1,5 +1,5 @@
 -- How many hours a link of a sound sheet can weigh. Assumes nothing.
-use Rattle.std.specs.Prelude.{◌≡◌, ℕ, ◌+◌, ◌*◌, ◌≤◌, ℤ, pos, neg_ℤ, ◌≤ℤ◌, Some, None, Option}
+use Rattle.std.specs.Prelude.{ℕ, ◌*◌, ◌≤◌, ℤ, pos, neg_ℤ, ◌≤ℤ◌, Some, None, Option}
 use Rattle.std.proofs.Common.{subst, mul-le-mul, arith}
 use Rattle.std.proofs.lemmas.Int.{ints}
 use Rattle.sheet.specs.declared.forms.Link.{Link}

@@ -1,19 +1,19 @@
 -- The walk along a loop, link by link. Assumes nothing.
-use Rattle.std.proofs.Common.{◌≡◌, ℕ, ◌+◌, ◌<◌, ◌≤◌, ◌⊎◌, List, [], ◌∷◌, ◌++◌, map, length, drop, set, ℤ, pos, ◌+ℤ◌, ◌≤ℤ◌, sym, refl, ap, ◌∙◌, subst, inl, inr, ⊎_elim, append_assoc, arith, length-append}
+use Rattle.std.proofs.Common.{◌≡◌, ℕ, ◌+◌, ◌<◌, ◌≤◌, ◌⊎◌, List, [], ◌∷◌, ◌++◌, length, drop, set, ◌+ℤ◌, sym, refl, ap, ◌∙◌, subst, inl, inr, ⊎_elim, append_assoc, arith}
 use Rattle.std.proofs.ByRecursion.{All-push, All-weaker}
-use Rattle.std.proofs.lemmas.List.{map_push, length-map, length_push, drop-drop, set_at, drop_more}
+use Rattle.std.proofs.lemmas.List.{map_push, length-map, length_push, set_at, drop_more}
 use Rattle.std.proofs.lemmas.Int.{ints}
 use Rattle.std.proofs.lemmas.Bool.{cases_lt}
 use Rattle.std.specs.List.{AllByRecursion as All}
 use Rattle.chart.proofs.Filling.{ends_low}
 use Rattle.chart.specs.Cells.{at}
-use Rattle.chart.specs.Positions.{place, position, IsPlaces}
+use Rattle.chart.specs.Positions.{place, position}
 use Rattle.chart.specs.declared.places.Places.{Places}
-use Rattle.kinds.proofs.Next.{NextLink, no_links, next_link, stop_later, stop_hours, stop_links}
+use Rattle.kinds.proofs.Next.{NextLink, no_links, stop_hours, stop_links}
 use Rattle.kinds.specs.Together.{no_link, counted_sum, one_link, counted_laws}
 use Rattle.kinds.specs.declared.together.Counted.{Counted}
 use Rattle.sheet.specs.Limits.{SoundSheet}
-use Rattle.sheet.specs.Links.{IsLink, Run, Loop, Distinct, weight, run_weight, places}
+use Rattle.sheet.specs.Links.{IsLink, Run, Distinct, weight, run_weight, places}
 use Rattle.sheet.specs.Sheets.{RuleSheet}
 use Rattle.sheet.specs.declared.forms.Link.{Link}
 use Rattle.walks.proofs.LinkLaws.{link_ends}

@@ -1,5 +1,5 @@
 -- The entries of the wait chart, read off a finished working chart. Assumes nothing.
-use Rattle.std.proofs.Common.{◌≡◌, ℕ, ◌+◌, ◌*◌, ◌/◌, ◌%◌, ◌<◌, ◌≤◌, true, false, ◌&&◌, List, length, get_or, take, drop, set, ℤ, pos, neg_ℤ, ◌≤ℤ◌, Err, sym, refl, ap, ◌∙◌, subst, ⊎_elim, arith}
+use Rattle.std.proofs.Common.{◌≡◌, ℕ, ◌+◌, ◌*◌, ◌/◌, ◌%◌, ◌<◌, ◌≤◌, List, length, get_or, take, drop, set, ℤ, pos, neg_ℤ, ◌≤ℤ◌, Err, sym, ap, ◌∙◌, subst, ⊎_elim, arith}
 use Rattle.std.proofs.lemmas.List.{get_or-take, length-take-le, get_or-set_same, get_or-set_other, drop-set-lt, drop-drop}
 use Rattle.std.proofs.lemmas.Bool.{and_from, true≢false, cases_lt}
 use Rattle.chart.specs.Cells.{at}
@@ -13,9 +13,9 @@ use Rattle.kinds.proofs.Weighing.{hours_alone}
 use Rattle.kinds.specs.Alone.{no_hours, hours_sum, HoursUnder, AloneWithin, link_hours}
 use Rattle.kinds.specs.declared.alone.Hours.{Hours}
 use Rattle.sheet.specs.Limits.{SoundSheet}
-use Rattle.sheet.specs.Sheets.{RuleSheet, present, Present}
+use Rattle.sheet.specs.Sheets.{RuleSheet, Present}
 use Rattle.sheet.specs.Timetables.{Timetable, Lawful}
-use Rattle.sheet.specs.Waits.{IsWait, IsEntry, IsChart}
+use Rattle.sheet.specs.Waits.{IsWait, IsEntry}
 use Rattle.walks.proofs.RunLaws.{no_lawful}
 use Rattle.walks.proofs.Potentials.{entries_are_waits}
 use Rattle.walks.proofs.Small.{wait_small}

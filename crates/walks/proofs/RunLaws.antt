@@ -1,10 +1,10 @@
 -- Runs of links: what they ask of a timetable, and how they are cut and joined. Assumes nothing.
-use Rattle.std.proofs.Common.{◌≡◌, ℕ, ◌*◌, List, [], ◌∷◌, ◌++◌, ℤ, pos, ◌+ℤ◌, ◌-ℤ◌, ◌≤ℤ◌, sym, refl, ap, subst, add-mul, arith}
+use Rattle.std.proofs.Common.{◌≡◌, ℕ, ◌*◌, List, [], ◌∷◌, ◌++◌, pos, ◌+ℤ◌, ◌-ℤ◌, ◌≤ℤ◌, sym, refl, ap, subst, add-mul, arith}
 use Rattle.std.proofs.lemmas.Int.{ints}
 use Rattle.sheet.specs.declared.forms.Link.{Link}
 use Rattle.sheet.specs.Sheets.{RuleSheet}
 use Rattle.sheet.specs.Timetables.{Timetable, start, Lawful}
-use Rattle.sheet.specs.Links.{Satisfies, Run, weight, run_weight, run_hours, run_carries}
+use Rattle.sheet.specs.Links.{Satisfies, Run, run_weight, run_hours, run_carries}
 use Rattle.sheet.specs.Waits.{delay}
 use Rattle.walks.proofs.LinkLaws.{links_hold}
 

@@ -1,5 +1,5 @@
 -- The waits of a sound sheet lie between -2,000 and 2,000. Assumes nothing.
-use Rattle.std.proofs.Common.{◌≡◌, ℕ, zero, suc, true, false, ℤ, pos, neg_ℤ, ◌≤ℤ◌, is_some, Some, None, Option, unwrap_or, refl, ◌∙◌, ⊎_elim, arith}
+use Rattle.std.proofs.Common.{◌≡◌, ℕ, zero, suc, false, ℤ, pos, neg_ℤ, ◌≤ℤ◌, is_some, Some, None, Option, unwrap_or, refl, ◌∙◌, ⊎_elim, arith}
 use mathlib.Core.HLevel.{×_prop}
 use mathlib.Core.Logic.{∥∥₁_elim}
 use Rattle.std.proofs.lemmas.Int.{ints}

@@ -1,4 +1,4 @@
-use Rattle.std.proofs.Common.{◌≡◌, ◌-◌, ◌<◌, ◌≤◌, ◌⊎◌, length}
+use Rattle.std.proofs.Common.{◌≡◌, ◌-◌, ◌<◌, ◌≤◌, ◌⊎◌}
 use Rattle.loops.specs.Loops.{RestKept}
 use Rattle.bound.specs.Bounds.{Works, Blocked}
 use Rattle.bound.proofs.least_period.Given as goal

@@ -1,4 +1,4 @@
-use Rattle.std.proofs.Common.{sym, ◌∙◌, arith}
+use Rattle.std.proofs.Common.{sym, arith}
 use Rattle.std.proofs.lemmas.Int.{ints}
 use Rattle.waits.proofs.Entries.{is_small, is_entry}
 use Rattle.waits.proofs.entry.Goals as goal

@@ -1,4 +1,3 @@
-use Prim.{⊥}
 use mathlib.Core.Logic.{∥∥₁_elim}
 use Rattle.waits.proofs.loop_codes.Goals as goal
 

@@ -1,4 +1,4 @@
-use Rattle.std.proofs.Common.{◌^◌, sym, ap, ◌∙◌, subst, arith, lit≤}
+use Rattle.std.proofs.Common.{◌^◌, sym, ap, ◌∙◌, subst, lit≤}
 use Rattle.chart.proofs.Filling.{ends_low}
 use Rattle.chart.specs.Laws.{limit}
 use Rattle.kinds.specs.Together.{CountedWithin, one_link, counted_laws}

@@ -2,7 +2,6 @@ use Rattle.std.proofs.Common.{Some, None, sym, ◌∙◌, subst}
 use Rattle.std.proofs.lemmas.Bool.{false≢true}
 use Rattle.walks.proofs.CodeLaws.{told_as, codes_apart}
 use Rattle.loops.specs.Steps.{Accounts}
-use Rattle.loops.proofs.steps.try_code.Given as given
 use Rattle.loops.proofs.steps.try_code.Goals as goal
 
 pub accounts-requires : goal.accounts-requires
