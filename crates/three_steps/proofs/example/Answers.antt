@@ -11,15 +11,15 @@ with_span sheet hours =
 
 pub returns : goal.returns
 returns c =
-    c.set-rule-3.ensures
+    c.set_rule-3.ensures
     ∙ ap (λ (s : Sheet). with_rule s 3 (After 3 2 2 2))
-    (c.set-rule-2.ensures
+    (c.set_rule-2.ensures
     ∙ ap (λ (s : Sheet). with_rule s 2 (After 2 3 0 0))
-    (c.set-rule.ensures
+    (c.set_rule.ensures
     ∙ ap (λ (s : Sheet). with_rule s 1 (After 1 2 0 0))
-    (c.set-step-3.ensures
+    (c.set_step-3.ensures
     ∙ ap (λ (s : Sheet). with_step s 3 (Some crop))
-    (c.set-step-2.ensures
+    (c.set_step-2.ensures
     ∙ ap (λ (s : Sheet). with_step s 2 (Some ferment))
-    (c.set-step.ensures
-    ∙ ap (λ (s : Sheet). with_step (with_span s 60) 1 (Some mash)) c.empty_sheet.ensures)))))
+    (c.set_step.ensures
+    ∙ ap (λ (s : Sheet). with_step (with_span s 60) 1 (Some mash)) c.empty-sheet.ensures)))))
