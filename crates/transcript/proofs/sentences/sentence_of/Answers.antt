@@ -31,4 +31,4 @@ returns-in-SetVessels c = for_arm _ c.in-SetVessels.is c.format-in-SetVessels.en
 pub returns-in_ok-name-in-AddStep : goal.returns-in_ok-name-in-AddStep
 returns-in_ok-name-in-AddStep c =
     let add = c.in-AddStep in
-    for_arm _ add.is (subst (λ name. IfOk c.format.result (λ s. string_bytes s ≡ step_added add.step name add.duration add.kind)) c.in_ok-name.ensures c.format.ensures.ok)
+    for_arm _ add.is (subst (λ name. IfOk c.format.result (λ s. string_bytes s ≡ step_added add.step name add.duration add.kind)) c.in_ok-name-in-AddStep.ensures c.format.ensures.ok)
