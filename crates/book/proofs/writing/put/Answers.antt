@@ -1,4 +1,4 @@
-use Rattle.std.proofs.Common.{◌+◌, ◌≤◌, length, sym, refl, arith, le-leb}
+use Rattle.std.proofs.Common.{◌+◌, ◌≤◌, length, sym, arith, le-leb}
 use Rattle.book.proofs.Overwrites.{copied_is}
 use Rattle.book.proofs.writing.put.Goals as goal
 
