@@ -1,5 +1,5 @@
 -- A command is read back from its spelling. Assumes nothing.
-use Rattle.std.proofs.Common.{◌≡◌, ℕ, ◌+◌, ◌*◌, ◌/◌, ◌%◌, ◌≤◌, true, List, ◌∷◌, ◌++◌, length, take, Ok, Err, sym, refl, ap, ◌∙◌, arith, length-append, ne_eqb, eqb-true, le-leb}
+use Rattle.std.proofs.Common.{◌≡◌, ℕ, ◌+◌, ◌*◌, ◌/◌, ◌%◌, ◌≤◌, true, List, ◌∷◌, ◌++◌, length, Ok, refl, ap, ◌∙◌, arith, length-append, ne_eqb, eqb-true, le-leb}
 use native.Mathlib.Nat.{mod-add-div'}
 use Rattle.std.proofs.lemmas.List.{take_at}
 use Rattle.book.specs.Commands.{Instruction, add_step, remove_step, set_duration, put_after, put_within, put_at, remove_rule, set_period, set_span, set_vessels, width, whole, opened_by, decoded}

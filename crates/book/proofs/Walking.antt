@@ -1,8 +1,8 @@
 -- A walk through a book ends, goes one way, and loses no byte. Assumes nothing.
-use Rattle.std.proofs.Common.{◌≡◌, ℕ, zero, suc, ◌+◌, ◌-◌, ◌<◌, ◌≤◌, Bool, true, false, cond, eqb, List, [], ◌∷◌, length, get_or, drop, Some, None, Ok, Err, Option, Result, sym, refl, ap, ◌∙◌, subst, ⊎_elim, arith, le-ltb, lt-ltb, leb-true}
+use Rattle.std.proofs.Common.{◌≡◌, ℕ, zero, suc, ◌+◌, ◌-◌, ◌<◌, ◌≤◌, Bool, true, false, cond, List, [], ◌∷◌, length, drop, Some, None, Ok, Err, Result, sym, refl, subst, ⊎_elim, arith, le-ltb, lt-ltb, leb-true}
 use Rattle.std.proofs.lemmas.List.{length-drop}
 use Rattle.std.proofs.lemmas.Bool.{cases_lt, cond_both}
-use Rattle.book.specs.Commands.{Instruction, add_step, remove_step, set_duration, put_after, put_within, put_at, remove_rule, set_period, set_span, set_vessels, width, whole, opened_by, decoded}
+use Rattle.book.specs.Commands.{Instruction, add_step, remove_step, set_duration, put_after, put_within, put_at, remove_rule, set_period, set_span, set_vessels, width, whole, decoded}
 use Rattle.book.specs.Reading.{Item, item_of, placed, behind, next, onward, book_of, place_of, Stepped}
 use Rattle.book.specs.Walks.{Walk, ends, tells, followed_by, items_from, items, read, dropped, Walkable}
 use Rattle.book.specs.declared.faults.Cause.{Cause}

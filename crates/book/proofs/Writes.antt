@@ -4,7 +4,7 @@ use Rattle.std.proofs.lemmas.Bool.{false≢true, cond-true}
 use Rattle.book.proofs.Overwrites.{drop-overwritten, length-overwritten, overwritten_twice}
 use Rattle.book.proofs.Spelling.{reads_back}
 use Rattle.book.specs.Commands.{Instruction, width, decoded}
-use Rattle.book.specs.Writing.{spelled, eight_bytes, overwritten, room_for, written, Overwrote, Wrote, ReadsBack}
+use Rattle.book.specs.Writing.{spelled, eight_bytes, overwritten, room_for, Overwrote, Wrote, ReadsBack}
 use Rattle.book.specs.declared.writing.Unwritten.{Unwritten}
 use Rattle.book.specs.declared.writing.Unwritten.TheVariants.{NameLength, TooShort}
 

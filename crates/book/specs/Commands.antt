@@ -1,5 +1,5 @@
 -- The format of a book: what each command says, and the bytes that spell it. Assumes nothing.
-use Rattle.std.specs.Prelude.{◌≡◌, ℕ, ◌+◌, ◌*◌, ◌/◌, ◌%◌, ◌<◌, Bool, cond, List, [], ◌∷◌, ◌++◌, length, take, drop, Ok, Err, Result, ◌==◌, nat_le, slice_index}
+use Rattle.std.specs.Prelude.{ℕ, ◌+◌, ◌*◌, cond, List, length, take, drop, Ok, Err, Result, ◌==◌, nat_le, slice_index}
 use Rattle.book.specs.declared.commands.Command.{Command}
 use Rattle.book.specs.declared.commands.Command.TheVariants as code
 use Rattle.book.specs.declared.faults.Cause.{Cause}

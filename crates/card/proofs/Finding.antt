@@ -1,5 +1,5 @@
 -- One pass over a card finds what its sheet has. Assumes nothing.
-use Rattle.std.proofs.Common.{◌≡◌, ℕ, ◌<◌, ◌≤◌, true, false, cond, eqb, List, length, replicate, is_err, Some, None, Ok, Err, Option, Result, sym, refl, ap, ◌∙◌, subst, ⊎_elim, arith, eq-eqb, ne_eqb}
+use Rattle.std.proofs.Common.{◌≡◌, ℕ, ◌<◌, ◌≤◌, true, false, cond, eqb, List, length, is_err, Some, None, Ok, Err, Option, Result, sym, refl, ap, ◌∙◌, subst, ⊎_elim, arith, eq-eqb, ne_eqb}
 use Rattle.std.proofs.lemmas.List.{length-map}
 use Rattle.std.proofs.lemmas.Bool.{and_parts, cases_eq, cond-true, cond-false, true≢false, false≢true}
 use Rattle.std.specs.Option.{option_map}
@@ -19,10 +19,8 @@ use Rattle.sheet.specs.Sheets.{numbered, step_at, rule_sheet, without_name}
 use Rattle.sheet.specs.declared.forms.Rule.{Rule}
 use Rattle.sheet.specs.declared.forms.Rule.TheVariants.{Free, After, Within, At}
 use Rattle.sheet.specs.declared.forms.Sheet.{Sheet}
-use Rattle.sheet.specs.declared.forms.Step.{Step}
 use Rattle.card.proofs.Progress.{Reached, at_start, go_on, stopped, unread, at_end}
 use Rattle.card.specs.Cards.{Verdict, stands_for, faulty, ended, ruling, judged, outcome, sheet_of}
-use Rattle.card.specs.Faults.{from_book}
 use Rattle.card.specs.Finds.{Answers, answers_from, none_found, step_found, nameless, with_found_rule, noted_by}
 use Rattle.card.specs.Marks.{placed_in}
 use Rattle.card.specs.Told.{ruling_passed}

@@ -1,12 +1,12 @@
 -- The marks show which steps the sheet has. Assumes nothing.
-use Rattle.std.proofs.Common.{◌≡◌, ℕ, ◌<◌, ◌≤◌, Bool, true, false, ◌&&◌, leb, List, length, get_or, set, replicate, is_some, Some, None, sym, refl, ap, ◌∙◌, subst, ⊎_elim, arith}
+use Rattle.std.proofs.Common.{◌≡◌, ℕ, Bool, true, false, ◌&&◌, leb, List, length, set, replicate, is_some, None, sym, refl, ap, ◌∙◌, ⊎_elim, arith}
 use Rattle.std.proofs.lemmas.List.{get_or-set_same, get_or-set_other, length-map}
 use Rattle.std.proofs.lemmas.Bool.{and_parts, cases_eq, false≢true}
 use Rattle.std.specs.Option.{option_map}
 use Rattle.book.specs.Commands.{Instruction, add_step, remove_step, set_duration, put_after, put_within, put_at, remove_rule, set_period, set_span, set_vessels}
 use Rattle.changes.proofs.Kept.{from_test, get_or_same, numbered_same}
 use Rattle.changes.specs.Changes.{asked}
-use Rattle.changes.specs.Tests.{from, name_fits, in_limits, has, puts_in_limits}
+use Rattle.changes.specs.Tests.{from, in_limits, has, puts_in_limits}
 use Rattle.sheet.proofs.Numbered.{numbered-replaced_same, numbered-replaced_other, told_some}
 use Rattle.sheet.specs.Edits.{empty_sheet}
 use Rattle.sheet.specs.Limits.{FullSound}

@@ -1,5 +1,5 @@
 -- How far a card has been judged. Assumes nothing.
-use Rattle.std.proofs.Common.{◌≡◌, ℕ, List, [], ◌∷◌, Some, None, Ok, Err, sym, refl, ap, ◌∙◌, subst}
+use Rattle.std.proofs.Common.{◌≡◌, ℕ, List, ◌∷◌, Some, None, Ok, Err, refl, ap, ◌∙◌}
 use Rattle.book.proofs.Walking.{walk_next, walk_ends}
 use Rattle.book.specs.Reading.{Item, Placed, next, onward}
 use Rattle.book.specs.Walks.{Walk}

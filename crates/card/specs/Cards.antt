@@ -1,5 +1,5 @@
 -- What a card's bytes come to: a fault with its offset, or a sheet with names. Assumes nothing.
-use Rattle.std.specs.Prelude.{◌≡◌, ℕ, Bool, cond, List, [], ◌∷◌, length, Some, None, Ok, Err, Option, Result, nat_le}
+use Rattle.std.specs.Prelude.{ℕ, Bool, cond, List, [], ◌∷◌, length, Some, None, Ok, Err, Option, Result, nat_le}
 use Rattle.book.specs.Reading.{Item, Placed}
 use Rattle.book.specs.Walks.{items}
 use Rattle.changes.specs.Changes.{asked}

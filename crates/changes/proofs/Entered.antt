@@ -1,5 +1,5 @@
 -- A sheet that keeps every limit keeps them through every command that has no fault on it. Assumes nothing.
-use Rattle.std.proofs.Common.{◌≡◌, ℕ, zero, suc, ◌<◌, ◌≤◌, Bool, true, false, cond, not, ◌&&◌, ◌||◌, eqb, leb, List, [], ◌∷◌, length, get_or, set, is_some, Some, None, Option, sym, refl, ap, ◌∙◌, subst, arith, lit≤, eqb-true, leb-true}
+use Rattle.std.proofs.Common.{◌≡◌, ℕ, zero, suc, ◌≤◌, Bool, true, false, cond, ◌||◌, List, [], ◌∷◌, length, get_or, is_some, Some, None, Option, sym, refl, ap, ◌∙◌, subst, lit≤, eqb-true, leb-true}
 use borrow.Author.Tests.{eqb-false, not-false}
 use Rattle.std.proofs.lemmas.List.{length-map, length-set}
 use Rattle.std.proofs.lemmas.Bool.{and_parts, and_from, false≢true, true≢false}
@@ -7,12 +7,12 @@ use Rattle.std.specs.Option.{option_map}
 use Rattle.book.specs.Commands.{Instruction, add_step, remove_step, set_duration, put_after, put_within, put_at, remove_rule, set_period, set_span, set_vessels}
 use Rattle.changes.proofs.Kept.{set_each, replaced_each, step_kept, rule_kept, asked_sound, from_test}
 use Rattle.changes.specs.Changes.{asked, with_count}
-use Rattle.changes.specs.Faults.{Check, ChecksRise, Rising, checks, first_of, first_fault, fault_number, names, named, outside, lacks, taken}
-use Rattle.changes.specs.Tests.{from, name_fits, has, puts_in_limits}
+use Rattle.changes.specs.Faults.{Check, ChecksRise, checks, first_of, first_fault, names, named, lacks}
+use Rattle.changes.specs.Tests.{has}
 use Rattle.changes.specs.declared.faults.CommandFault.{CommandFault}
 use Rattle.sheet.proofs.Numbered.{length-replaced, told_step, told_some, numbered-replaced_other}
-use Rattle.sheet.specs.Edits.{with_step, with_duration, lasting, replaced}
-use Rattle.sheet.specs.Limits.{From, StepFits, RuleFits, Sound, NameFits, FullSound}
+use Rattle.sheet.specs.Edits.{with_step, lasting}
+use Rattle.sheet.specs.Limits.{From, StepFits, RuleFits, NameFits, FullSound}
 use Rattle.sheet.specs.Sheets.{numbered, rule_at, HasStep, rule_sheet, without_name}
 use Rattle.sheet.specs.declared.forms.Rule.{Rule}
 use Rattle.sheet.specs.declared.forms.Rule.TheVariants.{Free, After, Within, At}

@@ -1,15 +1,15 @@
 -- A sheet that keeps every limit keeps them through a command whose values do. Assumes nothing.
-use Rattle.std.proofs.Common.{◌≡◌, ℕ, zero, suc, ◌<◌, ◌≤◌, Bool, true, false, ◌&&◌, eqb, leb, List, [], ◌∷◌, length, get_or, set, replicate, is_some, Some, None, Option, sym, refl, ap, ◌∙◌, subst, arith, lit≤, eqb-true, leb-true}
+use Rattle.std.proofs.Common.{◌≡◌, ℕ, zero, suc, ◌<◌, ◌≤◌, true, List, [], ◌∷◌, length, get_or, set, replicate, is_some, Some, None, sym, refl, ap, ◌∙◌, subst, arith, lit≤, eqb-true, leb-true}
 use Rattle.std.proofs.lemmas.List.{length-map}
 use Rattle.std.proofs.lemmas.Bool.{and_parts, false≢true}
 use Rattle.std.specs.Option.{option_map}
 use Rattle.book.specs.Commands.{Instruction, add_step, remove_step, set_duration, put_after, put_within, put_at, remove_rule, set_period, set_span, set_vessels}
 use Rattle.changes.specs.Changes.{asked, with_period, with_span}
-use Rattle.changes.specs.Tests.{from, printable, name_fits, has, puts_in_limits}
+use Rattle.changes.specs.Tests.{from, printable, name_fits, puts_in_limits}
 use Rattle.sheet.proofs.Numbered.{length-replaced, told_step, told_some}
 use Rattle.sheet.specs.Edits.{empty_sheet, replaced, with_step, with_rule}
-use Rattle.sheet.specs.Limits.{From, StepFits, RuleFits, Sound, NameFits, FullSound}
-use Rattle.sheet.specs.Sheets.{RuleSheet, numbered, step_at, rule_at, has_step, HasStep, rule_sheet, without_name}
+use Rattle.sheet.specs.Limits.{From, StepFits, RuleFits, NameFits, FullSound}
+use Rattle.sheet.specs.Sheets.{numbered, rule_at, HasStep, rule_sheet, without_name}
 use Rattle.sheet.specs.declared.forms.Rule.{Rule}
 use Rattle.sheet.specs.declared.forms.Rule.TheVariants.{Free, After, Within, At}
 use Rattle.sheet.specs.declared.forms.Sheet.{Sheet}

@@ -1,5 +1,5 @@
 -- What a command asks for: the sheet that stands, with one change. Assumes nothing.
-use Rattle.std.specs.Prelude.{ℕ, set, Some, None, slice_set}
+use Rattle.std.specs.Prelude.{ℕ, Some, None, slice_set}
 use Rattle.book.specs.Commands.{Instruction, add_step, remove_step, set_duration, put_after, put_within, put_at, remove_rule, set_period, set_span, set_vessels}
 use Rattle.sheet.specs.Edits.{with_step, with_duration, with_rule}
 use Rattle.sheet.specs.declared.forms.Rule.TheVariants.{Free, After, Within, At}

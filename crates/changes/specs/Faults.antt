@@ -1,5 +1,5 @@
 -- What can be wrong with a command on a sheet, apart from leaving it without a lawful timetable. Assumes nothing.
-use Rattle.std.specs.Prelude.{ℕ, ◌<◌, Bool, true, false, cond, not, ◌&&◌, ◌||◌, List, [], ◌∷◌, map, Some, None, Option, ◌==◌, nat_le}
+use Rattle.std.specs.Prelude.{ℕ, ◌<◌, Bool, true, false, cond, not, ◌||◌, List, [], ◌∷◌, map, Some, None, Option, ◌==◌, nat_le}
 use Rattle.book.specs.Commands.{Instruction, add_step, remove_step, set_duration, put_after, put_within, put_at, remove_rule, set_period, set_span, set_vessels}
 use Rattle.changes.specs.Tests.{from, name_fits, has}
 use Rattle.changes.specs.declared.faults.CommandFault.{CommandFault}

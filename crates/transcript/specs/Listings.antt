@@ -1,5 +1,5 @@
 -- The listing of two books. Assumes nothing.
-use Rattle.std.specs.Prelude.{◌≡◌, ℕ, ◌<◌, ◌≤◌, ◌⊎◌, List, [], ◌∷◌, ◌++◌, length, Err, codes, decimal}
+use Rattle.std.specs.Prelude.{◌≡◌, ℕ, ◌<◌, ◌≤◌, List, [], ◌∷◌, ◌++◌, length, Err, codes, decimal}
 use Rattle.std.specs.List.{flat_map}
 use Rattle.book.specs.Reading.{Item}
 use Rattle.book.specs.Walks.{Walk}

@@ -1,5 +1,5 @@
 -- A command and a fault in plain words. Assumes nothing.
-use Rattle.std.specs.Prelude.{ℕ, cond, ◌&&◌, List, [], ◌∷◌, ◌++◌, map, Ok, Err, codes, decimal, nat_le}
+use Rattle.std.specs.Prelude.{ℕ, cond, ◌&&◌, List, ◌++◌, map, Ok, Err, codes, decimal, nat_le}
 use Rattle.book.specs.Commands.{Instruction, add_step, remove_step, set_duration, put_after, put_within, put_at, remove_rule, set_period, set_span, set_vessels}
 use Rattle.book.specs.Numbers.{number}
 use Rattle.book.specs.Reading.{Item}

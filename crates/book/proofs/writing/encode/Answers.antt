@@ -2,4 +2,4 @@ use Rattle.book.proofs.Writes.{wrote_reads_back}
 use Rattle.book.proofs.writing.encode.Goals as goal
 
 pub returns : goal.returns
-returns c = record { wrote = c.put-command.ensures; back = wrote_reads_back c.put-command.ensures }
+returns c = record { wrote = c.put_command.ensures; back = wrote_reads_back c.put_command.ensures }

@@ -6,15 +6,15 @@ use Rattle.card.specs.Cards.{outcome}
 use Rattle.card.specs.Faults.{from_book}
 use Rattle.card.proofs.checking.check.Goals as goal
 
-pub returns-in-err-reader : goal.returns-in-err-reader
-returns-in-err-reader c =
+pub returns-in_err-reader : goal.returns-in_err-reader
+returns-in_err-reader c =
     let card = c.args.card.now in
-    let p = err_from_is_err_and c.from-residual.result c.from-residual.ensures.1 in
-    let long = c.in-err-reader.ensures in
+    let p = err_from_is_err_and c.from_residual.result c.from_residual.ensures.1 in
+    let long = c.in_err-reader.ensures in
     p.1 ∙ ap Err (p.2 ∙ ap from_book long.1) ∙ sym (ap outcome (verdict_long card long.0))
 
 pub returns : goal.returns
 returns c =
     let card = c.args.card.now in
-    let opened = c.in-ok-reader.ensures in
-    c.judge-all.ensures (items card) (opened_walk c.in-ok-reader.reader opened) ∙ sym (ap outcome (verdict_short card opened.0))
+    let opened = c.in_ok-reader.ensures in
+    c.judge_all.ensures (items card) (opened_walk c.in_ok-reader.reader opened) ∙ sym (ap outcome (verdict_short card opened.0))

@@ -13,14 +13,14 @@ loop-item-smaller c = falls c.in-Some.ensures
 pub loop-item-preserved : goal.loop-item-preserved
 loop-item-preserved c =
     let same = c.loop-item.invariant.0 in
-    let step = subst (λ r. Stepped c.loop-item.reader (Some r) c.read-next.new.self) c.in-Ok.is c.in-Some.ensures in
+    let step = subst (λ r. Stepped c.loop-item.reader (Some r) c.read_next.new.self) c.in-Ok.is c.in-Some.ensures in
     (step.book ∙ same, λ end items sheet w sound. step_looked same (c.loop-item.invariant.1 end items sheet w sound) items w sheet sound c.in-Ok.entry _ c.noted-found.ensures step)
 
 pub returns-in-Err : goal.returns-in-Err
 returns-in-Err c = λ end items sheet w sound.
     let same = c.loop-item.invariant.0 in
-    let step = subst (λ r. Stepped c.loop-item.reader (Some r) c.read-next.new.self) c.in-Err.is c.in-Some.ensures in
+    let step = subst (λ r. Stepped c.loop-item.reader (Some r) c.read_next.new.self) c.in-Err.is c.in-Some.ensures in
     absurd (fault_looked same (c.loop-item.invariant.1 end items sheet w sound) items w sheet sound _ step)
 
 pub returns : goal.returns
-returns c = λ end items sheet w sound. end_looked c.loop-item.invariant.0 (c.loop-item.invariant.1 end items sheet w sound) items w sheet sound c.in-default.ensures
+returns c = λ end items sheet w sound. end_looked c.loop-item.invariant.0 (c.loop-item.invariant.1 end items sheet w sound) items w sheet sound c.in_default.ensures

@@ -8,7 +8,7 @@ pub returns : goal.returns
 returns c =
     let checked = c.args.checked.now in
     let ok = ∥∥₁_elim checked.sound (full_prop checked.sheet) (λ full. full) in
-    let put = c.put-card.ensures in
+    let put = c.put_card.ensures in
     record {
       written = put_written put.put (omega arith);
       stands = put_stands checked.sheet ok put.put put.most;

@@ -4,6 +4,6 @@ use Rattle.card_writing.proofs.placing.put_card.Goals as goal
 
 pub returns : goal.returns
 returns c = record {
-  put = put_groups c.args.sheet.now c.put-period-behind-period.ensures.put c.put-span-behind-span.ensures.put c.put-steps-behind-steps.ensures.put c.put-rules.ensures.put;
+  put = put_groups c.args.sheet.now c.put_period-behind_period.ensures.put c.put_span-behind_span.ensures.put c.put_steps-behind_steps.ensures.put c.put_rules.ensures.put;
   most = omega arith;
 }

@@ -6,4 +6,4 @@ pub loop-below-init : goal.loop-below-init
 loop-below-init c = put_to_none _ _ c.args.buffer.now c.args.at (omega arith)
 
 pub loop-below-preserved : goal.loop-below-preserved
-loop-below-preserved c = put_to_more _ c.loop-below.invariant c.put-step-place.ensures.put c.put-step-place.ensures.most
+loop-below-preserved c = put_to_more _ c.loop-below.invariant c.put_step-place.ensures.put c.put_step-place.ensures.most

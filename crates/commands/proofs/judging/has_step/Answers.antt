@@ -4,4 +4,4 @@ use Rattle.commands.proofs.judging.has_step.Goals as goal
 
 pub returns : goal.returns
 returns c =
-    c.is-some.ensures ∙ ap is_some c.step.ensures ∙ sym (told_some c.args.sheet.now c.args.number)
+    c.is_some.ensures ∙ ap is_some c.step.ensures ∙ sym (told_some c.args.sheet.now c.args.number)

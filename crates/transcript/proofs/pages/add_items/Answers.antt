@@ -10,7 +10,7 @@ pub loop-item-preserved : goal.loop-item-preserved
 loop-item-preserved c =
     let step = c.in-Some.ensures in
     let old = c.loop-item.invariant in
-    (step.book ∙ old.0, one_more {longer = string_bytes c.add-item.new.text} old.0 old.1 step c.in-ok-add-item.ensures)
+    (step.book ∙ old.0, one_more {longer = string_bytes c.add_item.new.text} old.0 old.1 step c.in_ok-add_item.ensures)
 
 pub returns : goal.returns
-returns c = no_more c.loop-item.invariant.0 c.loop-item.invariant.1 c.in-default.ensures
+returns c = no_more c.loop-item.invariant.0 c.loop-item.invariant.1 c.in_default.ensures

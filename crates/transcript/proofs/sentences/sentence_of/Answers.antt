@@ -28,7 +28,7 @@ returns-in-SetSpan c = for_arm _ c.in-SetSpan.is c.format-in-SetSpan.ensures.ok
 pub returns-in-SetVessels : goal.returns-in-SetVessels
 returns-in-SetVessels c = for_arm _ c.in-SetVessels.is c.format-in-SetVessels.ensures.ok
 
-pub returns-in-ok-name : goal.returns-in-ok-name
-returns-in-ok-name c =
+pub returns-in_ok-name-in-AddStep : goal.returns-in_ok-name-in-AddStep
+returns-in_ok-name-in-AddStep c =
     let add = c.in-AddStep in
-    for_arm _ add.is (subst (λ name. IfOk c.format.result (λ s. string_bytes s ≡ step_added add.step name add.duration add.kind)) c.in-ok-name.ensures c.format.ensures.ok)
+    for_arm _ add.is (subst (λ name. IfOk c.format.result (λ s. string_bytes s ≡ step_added add.step name add.duration add.kind)) c.in_ok-name-in-AddStep.ensures c.format.ensures.ok)
