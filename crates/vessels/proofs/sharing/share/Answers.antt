@@ -10,6 +10,6 @@ returns-then-hours_until-a c =
 pub returns : goal.returns
 returns c =
     when_test _
-    (λ during. shares_turned _ _ _ (shares_from c.args.period c.args.b c.args.a c.hours_until-2.result (omega arith) (omega arith) c.hours-until-2.ensures.comes (ltb-true _ _ during)))
+    (λ during. shares_turned _ _ _ (shares_from c.args.period c.args.b c.args.a c.hours_until-2.result (omega arith) (omega arith) c.hours_until-2.ensures.comes (ltb-true _ _ during)))
     (λ past. shares_not c.args.period c.args.a c.args.b c.hours_until.result c.hours_until-2.result
-    c.hours_until.ensures.below c.hours_until-2.ensures.below c.hours_until.ensures.comes c.hours-until-2.ensures.comes c.if-hours_until-a.false (ltb-false _ _ past))
+    c.hours_until.ensures.below c.hours_until-2.ensures.below c.hours_until.ensures.comes c.hours_until-2.ensures.comes c.if-hours_until-a.false (ltb-false _ _ past))
