@@ -106,19 +106,19 @@ mod giving {
         match row.numbers {
             Ok(numbers) => {
                 assert_eq!(rt; answer, Ok(()));
-                assert!(rt; &buffer[0..4] == &numbers);
-                assert!(rt; &buffer[4..31] == &[0; 27]);
-                assert!(rt; &buffer[31..33] == &[0xEE; 2]);
+                assert!(rt; &buffer[0..4] == numbers.as_slice());
+                assert!(rt; &buffer[4..31] == [0; 27].as_slice());
+                assert!(rt; &buffer[31..33] == [0xEE; 2].as_slice());
             }
             Err(step) => {
                 assert_eq!(rt; answer, Err(Refusal::NoVessel(step)));
-                assert!(rt; &buffer[0..33] == &[0xEE; 33]);
+                assert!(rt; &buffer[0..33] == [0xEE; 33].as_slice());
             }
         }
         let mut short = [0xEE; 30];
         let refused = give_out(&steps, row.period, &stock, &mut short);
         assert_eq!(rt; refused, Err(Refusal::TooShort));
-        assert!(rt; &short[0..30] == &[0xEE; 30]);
+        assert!(rt; &short[0..30] == [0xEE; 30].as_slice());
     }
 
     #[test]

@@ -1,4 +1,4 @@
-use Rattle.std.proofs.Common.{◌∙◌, arith, length-set}
+use Rattle.std.proofs.Common.{arith, length-set}
 use Rattle.vessels.proofs.Agreement.{numbered_more}
 use Rattle.vessels.proofs.giving.give.Goals as goal
 

@@ -13,7 +13,7 @@ returns-in-Ok c =
         by_rule = rule;
         only = λ other by. outcome_only _ _ _ other (all c.in-Ok.given) by rule;
         answers = refl;
-        leaves = ap (λ front. front ++ drop 31 c.args.numbers.now) c.copy-from-slice.ensures.after;
+        leaves = ap (λ front. front ++ drop 31 c.args.numbers.now) c.copy_from_slice.ensures.after;
       };
     }
 

@@ -10,5 +10,5 @@ loop-vessel-preserved c = λ v low high.
     (λ more.
     let next : c.loop-vessel.vessel + 1 ≡ v = omega arith in
     let P : ℕ → Type 0 = λ w. Taken c.args.period c.args.placed.now c.args.numbers.now c.args.place w in
-    subst P next c.if-not-is-taken.ensures)
+    subst P next c.if-not-is_taken.ensures)
     (cases_lt v (c.loop-vessel.vessel + 1))
