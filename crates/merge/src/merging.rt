@@ -126,7 +126,7 @@ fn take_both(
     reports: &mut [Report],
 ) -> usize
     requires { (Readable office.now tablet.now) × (Room office.now tablet.now (record { hours = hours.now; reports = reports.old })) }
-    ensures { Done (sheet_of planner.old) office.now tablet.now (record { hours = hours.entry.now; reports = reports.old }) result (sheet_of planner.new) (record { hours = hours.exit.now; reports = reports.new }) }
+    ensures { Done (sheet_of planner.old) office.now tablet.now (record { hours = hours.old; reports = reports.old }) result (sheet_of planner.new) (record { hours = hours.new; reports = reports.new }) }
 {
     let first = take_either(planner, Book::Office, office, tablet, hours, reports);
     let second = take_either(
@@ -156,7 +156,7 @@ fn half_of(book: &[u8]) -> usize
 
 fn has_room(office: &[u8], tablet: &[u8], hours: &[Hours], reports: &[Report]) -> bool
     requires { Readable office.now tablet.now }
-    ensures { MatchBool result (Room office.now tablet.now (record { hours = hours.entry.now; reports = reports.now })) (Room office.now tablet.now (record { hours = hours.entry.now; reports = reports.now }) → ⊥) }
+    ensures { MatchBool result (Room office.now tablet.now (record { hours = hours.old; reports = reports.now })) (Room office.now tablet.now (record { hours = hours.old; reports = reports.now }) → ⊥) }
 {
     hours.len() >= 1024 && reports.len() >= half_of(office) + half_of(tablet)
 }
@@ -170,7 +170,7 @@ pub fn merge(
     hours: &mut [Hours],
     reports: &mut [Report],
 ) -> Result<usize, MergeRefusal>
-    ensures { Merged (sheet_of planner.old) office.now tablet.now (record { hours = hours.entry.now; reports = reports.old }) (sheet_of planner.new) (record { hours = hours.exit.now; reports = reports.new }) result }
+    ensures { Merged (sheet_of planner.old) office.now tablet.now (record { hours = hours.old; reports = reports.old }) (sheet_of planner.new) (record { hours = hours.new; reports = reports.new }) result }
 {
     if !is_readable(office, tablet) {
         return Err(MergeRefusal::TooLong);

@@ -38,7 +38,7 @@ fn place<S: Source, C: Chooser>(
 
 // Places all steps of the sheet by the chooser's rule. An absent step is left without a start.
 pub(crate) fn fill<S: Source, C: Chooser>(source: &S, chart: &[i16], chooser: &C) -> [Placed; 31]
-    requires in_bounds { 1024 ≤ length chart.now }
+    requires room { 1024 ≤ length chart.now }
     requires chart { IsChart (S.Source.sheet source.now).told (take 1024 chart.now) }
     ensures { Filled (S.Source.sheet source.now).told (C.Chooser.rule chooser.now) result }
 {

@@ -37,7 +37,7 @@ fn open_window(chart: &[i16], step: usize) -> Window
 
 // The window of a step with nothing placed, or none for an absent step.
 fn open_at<S: Source>(source: &S, chart: &[i16], step: u8) -> Option<Window>
-    requires in_bounds { (1024 ≤ length chart.now) × ((0 < step) × (step < 32)) }
+    requires room { (1024 ≤ length chart.now) × ((0 < step) × (step < 32)) }
     requires chart { IsChart (S.Source.sheet source.now).told (take 1024 chart.now) }
     ensures { Tells (S.Source.sheet source.now).told nothing_placed step result }
 {
@@ -49,7 +49,7 @@ fn open_at<S: Source>(source: &S, chart: &[i16], step: u8) -> Option<Window>
 
 // The windows of all steps with nothing placed: that of step n stands at place n - 1.
 pub(crate) fn open_windows<S: Source>(source: &S, chart: &[i16]) -> [Option<Window>; 31]
-    requires in_bounds { 1024 ≤ length chart.now }
+    requires room { 1024 ≤ length chart.now }
     requires chart { IsChart (S.Source.sheet source.now).told (take 1024 chart.now) }
     ensures { Told (S.Source.sheet source.now).told nothing_placed result }
 {

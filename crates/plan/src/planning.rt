@@ -105,7 +105,7 @@ fn plan_or_loop<S: Source, C: Chooser>(
 ) -> Result<(), PlanRefusal>
     requires room { Room (record { hours = hours.now; counted = counted.old; codes = codes.old; starts = starts.old; vessels = vessels.old }) }
     requires counts { CountsFit stock.now }
-    ensures { Planned (S.Source.sheet source.now).told (C.Chooser.rule chooser.now) stock.now (record { hours = hours.entry.now; counted = counted.old; codes = codes.old; starts = starts.old; vessels = vessels.old }) (record { hours = hours.exit.now; counted = counted.new; codes = codes.new; starts = starts.new; vessels = vessels.new }) result }
+    ensures { Planned (S.Source.sheet source.now).told (C.Chooser.rule chooser.now) stock.now (record { hours = hours.old; counted = counted.old; codes = codes.old; starts = starts.old; vessels = vessels.old }) (record { hours = hours.new; counted = counted.new; codes = codes.new; starts = starts.new; vessels = vessels.new }) result }
 {
     let mut chart = [0i16; 1024];
     match wait_chart(source, hours, counted, &mut chart, codes) {
@@ -131,7 +131,7 @@ pub fn plan<S: Source, C: Chooser>(
     starts: &mut [u16],
     vessels: &mut [u8],
 ) -> Result<(), PlanRefusal>
-    ensures { Planned (S.Source.sheet source.now).told (C.Chooser.rule chooser.now) stock.now (record { hours = hours.entry.now; counted = counted.old; codes = codes.old; starts = starts.old; vessels = vessels.old }) (record { hours = hours.exit.now; counted = counted.new; codes = codes.new; starts = starts.new; vessels = vessels.new }) result }
+    ensures { Planned (S.Source.sheet source.now).told (C.Chooser.rule chooser.now) stock.now (record { hours = hours.old; counted = counted.old; codes = codes.old; starts = starts.old; vessels = vessels.old }) (record { hours = hours.new; counted = counted.new; codes = codes.new; starts = starts.new; vessels = vessels.new }) result }
 {
     if hours.len() < 1024
         || counted.len() < 1024

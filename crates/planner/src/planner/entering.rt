@@ -34,7 +34,7 @@ fn empty_chart() -> [i16; 1024]
 }
 
 fn has_room(hours: &[Hours], counted: &[Counted], codes: &[u16]) -> bool
-    ensures { MatchBool result (Room (record { hours = hours.entry.now; counted = counted.now; codes = codes.now })) (Room (record { hours = hours.entry.now; counted = counted.now; codes = codes.now }) → ⊥) }
+    ensures { MatchBool result (Room (record { hours = hours.old; counted = counted.now; codes = codes.now })) (Room (record { hours = hours.old; counted = counted.now; codes = codes.now }) → ⊥) }
 {
     hours.len() >= 1024 && counted.len() >= 1024 && codes.len() >= 32
 }
@@ -84,7 +84,7 @@ fn planner_for(
     codes: &mut [u16],
 ) -> Result<Planner, Refusal>
     requires { Room (record { hours = hours.now; counted = counted.old; codes = codes.old }) }
-    ensures { PlannerFor checked.sheet (record { hours = hours.entry.now; counted = counted.old; codes = codes.old }) (record { hours = hours.exit.now; counted = counted.new; codes = codes.new }) result }
+    ensures { PlannerFor checked.sheet (record { hours = hours.old; counted = counted.old; codes = codes.old }) (record { hours = hours.new; counted = counted.new; codes = codes.new }) result }
 {
     let mut chart = [0; 1024];
     let charted = wait_chart(&checked, hours, counted, &mut chart, codes);
@@ -119,7 +119,7 @@ impl Planner {
         counted: &mut [Counted],
         codes: &mut [u16],
     ) -> Result<(), Refusal>
-        ensures { Entered (sheet_of self.old) (said command.now) (record { hours = hours.entry.now; counted = counted.old; codes = codes.old }) (sheet_of self.new) (record { hours = hours.exit.now; counted = counted.new; codes = codes.new }) result }
+        ensures { Entered (sheet_of self.old) (said command.now) (record { hours = hours.old; counted = counted.old; codes = codes.old }) (sheet_of self.new) (record { hours = hours.new; counted = counted.new; codes = codes.new }) result }
     {
         if !has_room(hours, counted, codes) {
             return Err(Refusal::TooShort);

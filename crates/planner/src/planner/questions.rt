@@ -41,8 +41,8 @@ fn latest(chart: &[i16; 1024], step: u8) -> u16
 }
 
 fn window_at(chart: &[i16; 1024], step: u8) -> (u16, u16)
-    requires step_bound { (step < 32) × (pos 0 ≤ℤ slice_index_or chart.now step (pos 0)) }
-    requires pos_bound { (neg_ℤ (pos 2000) ≤ℤ slice_index_or chart.now (32 * step) (pos 0)) × (slice_index_or chart.now (32 * step) (pos 0) ≤ℤ pos 0) }
+    requires first_hour { (step < 32) × (pos 0 ≤ℤ slice_index_or chart.now step (pos 0)) }
+    requires last_hour { (neg_ℤ (pos 2000) ≤ℤ slice_index_or chart.now (32 * step) (pos 0)) × (slice_index_or chart.now (32 * step) (pos 0) ≤ℤ pos 0) }
     ensures first { pos result.0 ≡ slice_index_or chart.now step (pos 0) }
     ensures last { neg_ℤ (pos result.1) ≡ slice_index_or chart.now (32 * step) (pos 0) }
 {
