@@ -125,7 +125,7 @@ fn take_both(
     hours: &mut [Hours],
     reports: &mut [Report],
 ) -> usize
-    requires { (Readable office.now tablet.now) × (Room office.now tablet.now (record { hours = hours.now; reports = reports.old })) }
+    requires { (Readable office.now tablet.now) × (Room office.now tablet.now (record { hours = hours.old; reports = reports.old })) }
     ensures { Done (sheet_of planner.old) office.now tablet.now (record { hours = hours.old; reports = reports.old }) result (sheet_of planner.new) (record { hours = hours.new; reports = reports.new }) }
 {
     let first = take_either(planner, Book::Office, office, tablet, hours, reports);
@@ -156,7 +156,7 @@ fn half_of(book: &[u8]) -> usize
 
 fn has_room(office: &[u8], tablet: &[u8], hours: &[Hours], reports: &[Report]) -> bool
     requires { Readable office.now tablet.now }
-    ensures { MatchBool result (Room office.now tablet.now (record { hours = hours.old; reports = reports.now })) (Room office.now tablet.now (record { hours = hours.old; reports = reports.now }) → ⊥) }
+    ensures { MatchBool result (Room office.now tablet.now (record { hours = hours.now; reports = reports.now })) (Room office.now tablet.now (record { hours = hours.now; reports = reports.now }) → ⊥) }
 {
     hours.len() >= 1024 && reports.len() >= half_of(office) + half_of(tablet)
 }

@@ -103,7 +103,7 @@ fn plan_or_loop<S: Source, C: Chooser>(
     starts: &mut [u16],
     vessels: &mut [u8],
 ) -> Result<(), PlanRefusal>
-    requires room { Room (record { hours = hours.now; counted = counted.old; codes = codes.old; starts = starts.old; vessels = vessels.old }) }
+    requires room { Room (record { hours = hours.old; counted = counted.old; codes = codes.old; starts = starts.old; vessels = vessels.old }) }
     requires counts { CountsFit stock.now }
     ensures { Planned (S.Source.sheet source.now).told (C.Chooser.rule chooser.now) stock.now (record { hours = hours.old; counted = counted.old; codes = codes.old; starts = starts.old; vessels = vessels.old }) (record { hours = hours.new; counted = counted.new; codes = codes.new; starts = starts.new; vessels = vessels.new }) result }
 {

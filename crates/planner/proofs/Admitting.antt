@@ -1,6 +1,6 @@
 -- Entering a command without a search for loops. Assumes nothing.
 use mathlib.Core.HLevel.{⊥_prop}
-use Rattle.std.proofs.Common.{◌≡◌, ◌≤◌, List, length, ℤ, Some, None, Ok, Err, sym, refl, ap, ◌∙◌, subst, arith}
+use Rattle.std.proofs.Common.{◌≤◌, List, length, ℤ, Some, None, Ok, Err, sym, refl, ap, ◌∙◌, subst, arith}
 use mathlib.Core.Logic.{∥∥₁_elim}
 use Rattle.book.specs.Commands.{Instruction}
 use Rattle.checked.specs.declared.checked.CheckedSheet.{CheckedSheet}

@@ -1,5 +1,5 @@
 -- A planner for a sheet whose wait chart was given. Assumes nothing.
-use Rattle.std.proofs.Common.{◌≡◌, List, length, take, drop, ℤ, None, Ok, Err, Result, sym, refl, ap, ◌∙◌, subst, arith}
+use Rattle.std.proofs.Common.{◌≡◌, List, length, drop, ℤ, None, Ok, Err, Result, sym, refl, ap, ◌∙◌, subst, arith}
 use mathlib.Core.Logic.{∥∥₁_map}
 use Rattle.std.proofs.lemmas.List.{take_all}
 use Rattle.loops.specs.Loops.{LoopWritten}

@@ -1,12 +1,12 @@
 -- The chart of an empty planner: hour zero alone. Assumes nothing.
-use Rattle.std.proofs.Common.{◌≡◌, ℕ, zero, suc, ◌+◌, ◌*◌, ◌<◌, true, false, ◌&&◌, List, length, get_or, set, replicate, ℤ, pos, is_some, None, sym, refl, ap, ◌∙◌, subst, arith}
-use Rattle.std.proofs.lemmas.List.{length-set, length-replicate, get_or-set_same, get_or-set_other, get_or-replicate}
+use Rattle.std.proofs.Common.{◌≡◌, ℕ, zero, suc, ◌+◌, ◌*◌, ◌<◌, false, List, get_or, replicate, ℤ, pos, is_some, None, sym, refl, ap, ◌∙◌, subst, arith}
+use Rattle.std.proofs.lemmas.List.{length-set, length-replicate, get_or-set_other, get_or-replicate}
 use Rattle.std.proofs.lemmas.Int.{ints}
 use Rattle.std.proofs.lemmas.Bool.{and_parts, true≢false, false≢true}
 use Rattle.changes.proofs.Kept.{numbered_same}
 use Rattle.sheet.proofs.Numbered.{told_some}
 use Rattle.sheet.specs.Edits.{empty_sheet}
-use Rattle.sheet.specs.Sheets.{RuleSheet, rule_sheet, has_step, HasStep}
+use Rattle.sheet.specs.Sheets.{RuleSheet, rule_sheet, has_step}
 use Rattle.sheet.specs.Timetables.{Timetable, Lawful, Obeys}
 use Rattle.sheet.specs.Waits.{IsWait, IsEntry, no_wait}
 use Rattle.sheet.specs.declared.forms.Rule.TheVariants.{Free}

@@ -10,7 +10,7 @@ use Rattle.checked.specs.Props.{told_by}
 use Rattle.sheet.proofs.Numbered.{told_some}
 use Rattle.sheet.specs.Limits.{FullSound, Sound}
 use Rattle.sheet.specs.Sheets.{RuleSheet, HasStep, Present, numbered, rule_sheet}
-use Rattle.sheet.specs.Waits.{IsWait, IsChart}
+use Rattle.sheet.specs.Waits.{IsWait}
 use Rattle.sheet.specs.declared.forms.Sheet.{Sheet}
 use Rattle.sheet.specs.declared.forms.Step.{Step}
 use Rattle.walks.proofs.Orders.{le_prop}

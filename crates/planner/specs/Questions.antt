@@ -1,5 +1,5 @@
 -- What a planner tells of its sheet. Assumes nothing.
-use Rattle.std.specs.Prelude.{◌≡◌, ℕ, cond, List, pos, neg_ℤ, Some, None, Ok, Err, Option, Result, MatchOption, nat_le, slice_index}
+use Rattle.std.specs.Prelude.{◌≡◌, ℕ, cond, List, pos, neg_ℤ, Some, None, Ok, Err, Option, Result, nat_le, slice_index}
 use Rattle.changes.specs.Faults.{outside}
 use Rattle.changes.specs.declared.faults.CommandFault.{CommandFault}
 use Rattle.changes.specs.declared.faults.CommandFault.TheVariants.{StepNumber, StepAbsent, Kind}

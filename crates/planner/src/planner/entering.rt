@@ -34,7 +34,7 @@ fn empty_chart() -> [i16; 1024]
 }
 
 fn has_room(hours: &[Hours], counted: &[Counted], codes: &[u16]) -> bool
-    ensures { MatchBool result (Room (record { hours = hours.old; counted = counted.now; codes = codes.now })) (Room (record { hours = hours.old; counted = counted.now; codes = codes.now }) → ⊥) }
+    ensures { MatchBool result (Room (record { hours = hours.now; counted = counted.now; codes = codes.now })) (Room (record { hours = hours.now; counted = counted.now; codes = codes.now }) → ⊥) }
 {
     hours.len() >= 1024 && counted.len() >= 1024 && codes.len() >= 32
 }
@@ -83,7 +83,7 @@ fn planner_for(
     counted: &mut [Counted],
     codes: &mut [u16],
 ) -> Result<Planner, Refusal>
-    requires { Room (record { hours = hours.now; counted = counted.old; codes = codes.old }) }
+    requires { Room (record { hours = hours.old; counted = counted.old; codes = codes.old }) }
     ensures { PlannerFor checked.sheet (record { hours = hours.old; counted = counted.old; codes = codes.old }) (record { hours = hours.new; counted = counted.new; codes = codes.new }) result }
 {
     let mut chart = [0; 1024];

@@ -4,13 +4,13 @@ use Rattle.planner.proofs.Admitting.{impossible}
 use Rattle.planner.proofs.Charting.{has_lawful, plannable}
 use Rattle.planner.proofs.planner.admitting.planner_if_possible.Goals as goal
 
-pub invariant-of-result : goal.invariant-of-result
-invariant-of-result c = (∣ plannable c.args.checked.sheet _ c.plain-chart.new.chart (omega arith) c.in-Ok.ensures.written ∣₁, tt)
+pub invariant_of-result : goal.invariant_of-result
+invariant_of-result c = record { kept = ∣ plannable c.args.checked.sheet _ c.plain_chart.new.chart (omega arith) c.in-Ok.ensures.written ∣₁ }
 
 pub returns-in-Ok : goal.returns-in-Ok
 returns-in-Ok c =
     let given = c.in-Ok.ensures in
-    (refl, has_lawful c.args.checked.sheet _ c.plain-chart.new.chart (omega arith) given.written, given.working)
+    (refl, has_lawful c.args.checked.sheet _ c.plain_chart.new.chart (omega arith) given.written, given.working)
 
 pub returns-in-Err : goal.returns-in-Err
 returns-in-Err c =
