@@ -1,5 +1,5 @@
 -- Which vessels are held when, brew after brew. Assumes nothing.
-use Rattle.std.specs.Prelude.{◌≡◌, ℕ, ◌+◌, ◌*◌, ◌<◌, ◌≤◌, List, slice_index_or}
+use Rattle.std.specs.Prelude.{◌≡◌, ℕ, ◌+◌, ◌*◌, ◌<◌, ◌≤◌, List, slice_index}
 use Rattle.vessels.specs.Vessels.{at, Absent}
 use Rattle.vessels.specs.declared.placed.Placed.{Placed}
 
@@ -15,7 +15,7 @@ pub record Holds (period : ℕ) (placed : List Placed) (numbers : List ℕ) (pla
   pub is_step : place < 31
   pub present : Absent (at placed place) → ⊥
   pub its_kind : (at placed place).kind ≡ vessel.kind
-  pub its_number : slice_index_or numbers place 0 ≡ vessel.number
+  pub its_number : slice_index numbers place ≡ vessel.number
   pub from : (at placed place).start + brew * period ≤ hour
   pub before : hour < (at placed place).start + brew * period + (at placed place).duration
 
