@@ -3,14 +3,13 @@ use Rattle.std.proofs.Common.{◌≡◌, ℕ, ◌+◌, ◌-◌, List, [], ◌∷
 use borrow.Rule.Slice.PartMut.{mid_of, put_mid}
 use Rattle.std.proofs.lemmas.List.{append-nil, append_assoc, length-append, length-drop, take_all, drop_all, drop-drop}
 use Rattle.book.proofs.Walking.{items_walk}
-use Rattle.book.specs.Reading.{book_of, place_of, Opened}
+use Rattle.book.specs.Reading.{book_of, place_of}
 use Rattle.book.specs.Walks.{Walk, items}
 use Rattle.book.specs.declared.reading.Reader.{Reader}
 use Rattle.kinds.specs.declared.alone.Hours.{Hours}
 use Rattle.sheet.specs.declared.forms.Sheet.{Sheet}
 use Rattle.merge.proofs.Only.{merges_only}
-use Rattle.merge.specs.Books.{EnteredAll, EnteredBook}
-use Rattle.merge.specs.Merging.{Merges, Readable, Room, Buffers, Done}
+use Rattle.merge.specs.Merging.{Merges, Readable, Room, Done}
 use Rattle.merge.specs.Turns.{ItemsTaken, BookTaken}
 use Rattle.merge.specs.declared.reports.Book.{Book}
 use Rattle.merge.specs.declared.reports.Book.TheVariants.{Office, Tablet}

@@ -1,10 +1,10 @@
 -- The turns of a merge through one book. Assumes nothing.
-use Rattle.std.proofs.Common.{◌≡◌, ℕ, ◌+◌, ◌*◌, ◌/◌, ◌<◌, ◌≤◌, List, [], ◌∷◌, ◌++◌, length, drop, is_some, Some, None, Ok, Err, Option, Result, sym, refl, ap, ◌∙◌, subst, ⊎_elim, arith, lit≤}
+use Rattle.std.proofs.Common.{◌≡◌, ℕ, ◌+◌, ◌*◌, ◌<◌, ◌≤◌, List, [], ◌∷◌, ◌++◌, length, drop, is_some, Some, None, Ok, Err, Option, Result, sym, refl, ap, ◌∙◌, subst, ⊎_elim, arith, lit≤}
 use Rattle.std.proofs.lemmas.List.{append-nil, append_assoc}
 use Rattle.std.proofs.lemmas.Bool.{cases_lt, true≢false}
 use Rattle.book.proofs.Walking.{onward_inside, next_past, one_way}
 use Rattle.book.specs.Commands.{Instruction, add_step, remove_step, set_duration, put_after, put_within, put_at, remove_rule, set_period, set_span, set_vessels, width, decoded}
-use Rattle.book.specs.Reading.{Item, item_of, placed, next, onward, behind, book_of, place_of, Stepped}
+use Rattle.book.specs.Reading.{Item, item_of, next, onward, behind, book_of, place_of, Stepped}
 use Rattle.book.specs.Walks.{Walk, tells, ends}
 use Rattle.book.specs.declared.faults.Cause.{Cause}
 use Rattle.book.specs.declared.faults.Fault.{Fault}

@@ -1,5 +1,5 @@
 -- What comes of a book's commands, entered one after another, each into the sheet then standing. Assumes nothing.
-use Rattle.std.specs.Prelude.{◌≡◌, ℕ, ◌+◌, ◌≤◌, List, [], ◌∷◌, ◌++◌, length, drop, set, Some, None, Ok, Err, Option}
+use Rattle.std.specs.Prelude.{◌≡◌, ℕ, List, [], ◌∷◌, ◌++◌, Some, None, Ok, Err, Option}
 use Rattle.book.specs.Numbers.{number}
 use Rattle.book.specs.Reading.{Item}
 use Rattle.book.specs.Walks.{items}

@@ -1,5 +1,5 @@
 -- A merge of two books into one planner. Assumes nothing.
-use Rattle.std.specs.Prelude.{◌≡◌, ℕ, ◌+◌, ◌/◌, ◌<◌, ◌≤◌, ◌⊎◌, List, ◌++◌, length, drop, Ok, Err, Result}
+use Rattle.std.specs.Prelude.{◌≡◌, ℕ, ◌+◌, ◌/◌, ◌≤◌, List, ◌++◌, length, drop, Ok, Err, Result}
 use Rattle.kinds.specs.declared.alone.Hours.{Hours}
 use Rattle.loops.specs.Loops.{RestKept}
 use Rattle.sheet.specs.declared.forms.Sheet.{Sheet}

@@ -7,11 +7,11 @@ use Rattle.merge.proofs.merging.take_both.Goals as goal
 
 pub returns : goal.returns
 returns c =
-    let n = c.take-either-first.result in
-    let between = c.take-either-first.new.reports in
-    let rest = c.take-either-second.new.reports in
-    both (sheet_of c.args.planner.now) (sheet_of c.take-either-first.new.planner) (sheet_of c.take-either-second.new.planner) c.args.office.now c.args.tablet.now
-    c.args.hours.now c.take-either-first.new.hours c.take-either-second.new.hours c.args.reports.now between _ rest n c.take-either-second.result
-    c.requires.0 c.requires.1 c.take-either-first.ensures.taken
-    (subst (λ xs. BookTaken Tablet c.args.tablet.now (sheet_of c.take-either-first.new.planner) c.take-either-first.new.hours c.take-either-second.new.hours xs rest (sheet_of c.take-either-second.new.planner) c.take-either-second.result) (part_is n between) c.take-either-second.ensures.taken)
+    let n = c.take_either-first.result in
+    let between = c.take_either-first.new.reports in
+    let rest = c.take_either-second.new.reports in
+    both (sheet_of c.args.planner.now) (sheet_of c.take_either-first.new.planner) (sheet_of c.take_either-second.new.planner) c.args.office.now c.args.tablet.now
+    c.args.hours.now c.take_either-first.new.hours c.take_either-second.new.hours c.args.reports.now between _ rest n c.take_either-second.result
+    c.requires.0 c.requires.1 c.take_either-first.ensures.taken
+    (subst (λ xs. BookTaken Tablet c.args.tablet.now (sheet_of c.take_either-first.new.planner) c.take_either-first.new.hours c.take_either-second.new.hours xs rest (sheet_of c.take_either-second.new.planner) c.take_either-second.result) (part_is n between) c.take_either-second.ensures.taken)
     (end_is n between rest)
