@@ -4,19 +4,19 @@ use Rattle.std.proofs.lemmas.List.Sums.{count_by_more_yes, count_by_more_no, cou
 use Rattle.vessels.specs.declared.placed.Placed.{Placed}
 use Rattle.windows.specs.Crowds.{counts, crowd}
 use Rattle.plan.proofs.crowd.count.Goals as goal
-use Rattle.plan.proofs.crowd.count.Goals.{then-is-counted, else-is-counted}
+use Rattle.plan.proofs.crowd.count.Goals.{then-is_counted, else-is_counted}
 
-pub overflow-add-steps : goal.overflow-add-steps
-overflow-add-steps c =
+pub overflow_add-steps : goal.overflow_add-steps
+overflow_add-steps c =
     let few = count_by-le-length (counts c.args.period c.args.kind c.args.class) (take c.loop-i.i c.args.placed.now) in
     omega (arith, c.loop-i.invariant, length-take c.loop-i.i c.args.placed.now)
 
 pub loop-i-preserved : goal.loop-i-preserved
 loop-i-preserved c =
     let none : Placed = record { start = 0; duration = 0; kind = 0 } in
-    elim c.if-is-counted.branch [
-      | then-is-counted w ↦ w.steps-is ∙ omega (arith, c.loop-i.invariant, count_by_more_yes (counts c.args.period c.args.kind c.args.class) c.args.placed.now c.loop-i.i none (omega arith) (sym w.if-is-counted.ensures))
-      | else-is-counted w ↦ w.steps-is ∙ omega (arith, c.loop-i.invariant, count_by_more_no (counts c.args.period c.args.kind c.args.class) c.args.placed.now c.loop-i.i none (omega arith) (sym w.if-is-counted.ensures))
+    elim c.if-is_counted.branch [
+      | then-is_counted w ↦ w.steps-is ∙ omega (arith, c.loop-i.invariant, count_by_more_yes (counts c.args.period c.args.kind c.args.class) c.args.placed.now c.loop-i.i none (omega arith) (sym w.if-is_counted.ensures))
+      | else-is_counted w ↦ w.steps-is ∙ omega (arith, c.loop-i.invariant, count_by_more_no (counts c.args.period c.args.kind c.args.class) c.args.placed.now c.loop-i.i none (omega arith) (sym w.if-is_counted.ensures))
     ]
 
 pub returns : goal.returns

@@ -3,6 +3,6 @@ use Rattle.plan.proofs.crowd.covers_class.Goals as goal
 
 pub returns : goal.returns
 returns c = record {
-  value = covers_value c.args.period c.args.class c.requires c.args.step c.class-of.result c.class-of.ensures.value c.hours-until.result c.hours-until.ensures.below c.hours-until.ensures.comes;
-  covered = covers_when c.args.period c.args.class c.requires c.args.step c.class-of.result c.class-of.ensures.value c.hours-until.result c.hours-until.ensures.below c.hours-until.ensures.comes;
+  value = covers_value c.args.period c.args.class c.requires c.args.step c.class_of.result c.class_of.ensures.value c.hours_until.result c.hours_until.ensures.below c.hours_until.ensures.comes;
+  covered = covers_when c.args.period c.args.class c.requires c.args.step c.class_of.result c.class_of.ensures.value c.hours_until.result c.hours_until.ensures.below c.hours_until.ensures.comes;
 }

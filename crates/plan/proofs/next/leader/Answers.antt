@@ -3,4 +3,4 @@ use Rattle.plan.specs.Next.{slacks_left}
 use Rattle.plan.proofs.next.leader.Goals as goal
 
 pub loop-place-preserved : goal.loop-place-preserved
-loop-place-preserved c = c.pick-held.ensures (slacks_left c.args.windows.now c.args.placed.now) (sym c.slack-of.ensures) c.loop-place.invariant
+loop-place-preserved c = c.pick-held.ensures (slacks_left c.args.windows.now c.args.placed.now) (sym c.slack_of.ensures) c.loop-place.invariant

@@ -7,4 +7,4 @@ returns g c =
     let s = g.S.Source.sheet c.args.source.now in
     let rule = g.C.Chooser.rule c.args.chooser.now in
     let filled = c.fill-placed.ensures in
-    c.write-plan.ensures rule filled (filled_lawful s.told s.sound (take 1024 c.args.chart.now) c.requires.chart.1 rule c.fill-placed.result filled)
+    c.write_plan.ensures rule filled (filled_lawful s.told s.sound (take 1024 c.args.chart.now) c.requires.chart.1 rule c.fill-placed.result filled)

@@ -6,6 +6,6 @@ use Rattle.plan.proofs.writing.write_each.Goals as goal
 
 pub loop-i-preserved : goal.loop-i-preserved
 loop-i-preserved c = (
-  counted_more (λ k. (at c.args.placed.now k).start) c.loop-i.starts c.loop-i.i c.start-of.result (omega (arith, c.loop-i.auto.starts, c.requires)) c.loop-i.invariant.0 c.start-of.ensures,
-  drop-set-lt 31 c.loop-i.starts c.loop-i.i c.start-of.result (omega arith) ∙ c.loop-i.invariant.1,
+  counted_more (λ k. (at c.args.placed.now k).start) c.loop-i.starts c.loop-i.i c.start_of.result (omega (arith, c.loop-i.auto.starts, c.requires)) c.loop-i.invariant.0 c.start_of.ensures,
+  drop-set-lt 31 c.loop-i.starts c.loop-i.i c.start_of.result (omega arith) ∙ c.loop-i.invariant.1,
 )
