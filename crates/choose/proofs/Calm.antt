@@ -1,6 +1,6 @@
 -- The calmest hour of a run of hours. Assumes nothing.
-use Rattle.std.proofs.Common.{◌≡◌, ℕ, zero, suc, ◌+◌, ◌-◌, ◌<◌, ◌≤◌, true, false, ltb, sym, refl, ap, ◌∙◌, subst, ⊎_elim, le_refl, arith}
-use Rattle.std.proofs.lemmas.Bool.{cases_lt, cases_eq, cases_order, cond_both, ltb-true, ltb-false}
+use Rattle.std.proofs.Common.{◌≡◌, ℕ, zero, suc, ◌+◌, ◌<◌, ◌≤◌, ltb, ap, subst, ⊎_elim, le_refl, arith}
+use Rattle.std.proofs.lemmas.Bool.{cases_lt, cases_order, cond_both, ltb-true, ltb-false}
 use Rattle.choose.specs.Calmest.{Calmest, calmest}
 
 module _ {peaks : ℕ → ℕ} where

@@ -1,7 +1,7 @@
 -- Counts of classes, and the peaks of hours. Assumes nothing.
 use Rattle.std.proofs.Common.{◌≡◌, ℕ, zero, suc, ◌+◌, ◌-◌, ◌*◌, ◌%◌, ◌<◌, ◌≤◌, max, List, [], ◌∷◌, length, get_or, sym, refl, ap, ◌∙◌, ⊎_elim, le_refl, mod-lt, mod-eq_of_lt, add-one, arith}
 use native.Mathlib.Nat.{mod-eq-sub-mod, mod-add-mod, add-mod-mod}
-use Rattle.std.proofs.lemmas.Bool.{cases_lt, cases_eq}
+use Rattle.std.proofs.lemmas.Bool.{cases_lt}
 use Rattle.choose.specs.Classes.{class, crowd_at, peak}
 
 -- within the first round an hour is its own class
