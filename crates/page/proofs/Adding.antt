@@ -1,5 +1,5 @@
 -- Text added behind text. Assumes nothing.
-use Rattle.std.proofs.Common.{◌≡◌, ℕ, suc, ◌+◌, ◌<◌, ◌≤◌, Bool, true, false, cond, leb, List, [], ◌∷◌, ◌++◌, length, get_or, take, drop, is_ok, IfOk, Some, None, Ok, Err, Option, Result, sym, refl, ap, ◌∙◌, subst, arith, length-append}
+use Rattle.std.proofs.Common.{◌≡◌, ℕ, suc, ◌+◌, ◌<◌, ◌≤◌, Bool, true, false, cond, leb, List, [], ◌∷◌, ◌++◌, length, get_or, take, drop, is_ok, IfOk, None, Ok, Err, Result, sym, refl, ap, ◌∙◌, subst, arith, length-append}
 use Rattle.std.proofs.lemmas.List.{append-nil, append_assoc, take_more, take_at}
 use Rattle.std.proofs.lemmas.Bool.{true≢false}
 use Rattle.std.specs.List.{flat_map}
@@ -10,7 +10,7 @@ use Rattle.sheet.specs.Sheets.{numbered, rule_sheet}
 use Rattle.sheet.specs.declared.forms.Sheet.{Sheet}
 use Rattle.sheet.specs.Waits.{IsBound}
 use Rattle.merge.specs.declared.reports.Report.{Report}
-use Rattle.page.specs.Pages.{LineOf, StepLines, report_line}
+use Rattle.page.specs.Pages.{LineOf, report_line}
 use Rattle.page.specs.Parts.{StepAdded, StepsAdded, SheetAdded}
 
 -- a line that was written has the length told

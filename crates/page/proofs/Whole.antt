@@ -1,5 +1,5 @@
 -- The printed sheet of two books that were merged into an empty planner. Assumes nothing.
-use Rattle.std.proofs.Common.{◌≡◌, ℕ, List, [], ◌∷◌, ◌++◌, take, IfOk, Some, None, Ok, Err, Option, Result, sym, refl, ap, ◌∙◌, subst}
+use Rattle.std.proofs.Common.{◌≡◌, ℕ, List, [], ◌∷◌, take, IfOk, Some, None, Ok, Err, Option, Result, sym, refl, subst}
 use Rattle.book.specs.Commands.{Instruction}
 use Rattle.book.specs.Reading.{Item}
 use Rattle.book.specs.Walks.{items}

@@ -9,7 +9,7 @@ loop-below-init c = no_steps (sheet_of c.args.planner.now) (vec_items c.args.tex
 
 pub loop-below-preserved : goal.loop-below-preserved
 loop-below-preserved c =
-    steps_more (sheet_of c.args.planner.now) c.loop-below.below (vec_items c.args.text.now) (vec_items c.loop-below.text) (vec_items c.add-step.new.text) c.loop-below.invariant c.in-ok-add-step.ensures
+    steps_more (sheet_of c.args.planner.now) c.loop-below.below (vec_items c.args.text.now) (vec_items c.loop-below.text) (vec_items c.add_step.new.text) c.loop-below.invariant c.in_ok-add_step.ensures
 
 pub returns : goal.returns
 returns c =
