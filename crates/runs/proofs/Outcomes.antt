@@ -1,7 +1,7 @@
 -- What comes of entering a command is what the rules say. Assumes nothing.
 use mathlib.Core.HLevel.{⊥_prop}
 use mathlib.Core.Logic.{∥∥₁_elim}
-use Rattle.std.proofs.Common.{◌≡◌, is_some, Some, None, Ok, Err, sym, refl, ap, ◌∙◌}
+use Rattle.std.proofs.Common.{is_some, Some, None, Ok, Err, sym, ap, ◌∙◌}
 use Rattle.std.proofs.lemmas.Bool.{false≢true}
 use Rattle.book.specs.Commands.{Instruction}
 use Rattle.planner.specs.Entering.{Buffers, Room, Entered}

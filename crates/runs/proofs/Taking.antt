@@ -1,5 +1,5 @@
 -- One call of a run, and what is noted of it. Assumes nothing.
-use Rattle.std.proofs.Common.{◌≡◌, ℕ, ◌+◌, ◌<◌, List, [], ◌∷◌, ◌++◌, map, length, get_or, take, IfOk, Some, None, Ok, Err, Option, Result, sym, refl, ap, ◌∙◌, subst}
+use Rattle.std.proofs.Common.{◌≡◌, ℕ, ◌+◌, ◌<◌, List, [], ◌∷◌, ◌++◌, length, get_or, take, IfOk, Some, None, Ok, Err, Result, sym, refl, ap, ◌∙◌}
 use Rattle.std.proofs.lemmas.List.{append-nil, append_assoc, map-append, take_more}
 use Rattle.book.specs.Commands.{Instruction}
 use Rattle.merge.proofs.Told.{front}
@@ -7,7 +7,7 @@ use Rattle.merge.specs.Merging.{Buffers, Done}
 use Rattle.merge.specs.declared.reports.Report.{Report}
 use Rattle.planner.specs.Rules.{Outcome}
 use Rattle.sheet.specs.declared.forms.Sheet.{Sheet}
-use Rattle.runs.specs.Runs.{enters, merges, noted_of, reported_of}
+use Rattle.runs.specs.Runs.{enters, merges, reported_of}
 use Rattle.runs.specs.Turns.{CallTaken}
 use Rattle.runs.specs.declared.calls.Note.{Note}
 use Rattle.runs.specs.declared.calls.Note.TheVariants.{Refused, Reported}

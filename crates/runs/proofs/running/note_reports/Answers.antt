@@ -6,7 +6,7 @@ use Rattle.runs.proofs.running.note_reports.Goals as goal
 
 pub loop-report-preserved : goal.loop-report-preserved
 loop-report-preserved c =
-    reports_more c.args.call c.args.reports.now c.loop-report.report-index _ (vec_items c.args.notes.now) (vec_items c.loop-report.notes) (vec_items c.add-note.new.notes) c.loop-report-test.true c.loop-report.invariant c.in-ok-add-note.ensures
+    reports_more c.args.call c.args.reports.now c.loop-report.report-index _ (vec_items c.args.notes.now) (vec_items c.loop-report.notes) (vec_items c.add_note.new.notes) c.loop-report-test.true c.loop-report.invariant c.in_ok-add_note.ensures
 
 pub returns : goal.returns
 returns c =

@@ -5,4 +5,4 @@ use Rattle.runs.proofs.running.run.Goals as goal
 
 pub returns : goal.returns
 returns c =
-    run_taken _ c.args.calls.now _ (sheet_of c.take-calls.new.planner) (vec_items c.take-calls.new.notes) c.empty-planner.ensures c.new-notes.ensures.items c.in-ok-take-calls.ensures
+    run_taken _ c.args.calls.now _ (sheet_of c.take_calls.new.planner) (vec_items c.take_calls.new.notes) c.empty-planner.ensures c.new-notes.ensures.items c.in_ok-take_calls.ensures

@@ -7,5 +7,5 @@ use Rattle.runs.proofs.running.take_calls.Goals as goal
 pub loop-call-preserved : goal.loop-call-preserved
 loop-call-preserved c =
     turned (sheet_of c.args.planner.now) c.args.calls.now (vec_items c.args.notes.now) c.loop-call.call (sheet_of c.loop-call.planner) (vec_items c.loop-call.notes) c.loop-call.invariant _ c.loop-call-test.true
-    (sheet_of c.take-call.new.planner) (vec_items c.take-call.new.notes)
-    (subst (λ asked. CallTaken (sheet_of c.loop-call.planner) asked c.loop-call.call (vec_items c.loop-call.notes) (vec_items c.take-call.new.notes) (sheet_of c.take-call.new.planner)) c.call-at-asked.ensures c.in-ok-take-call.ensures)
+    (sheet_of c.take_call.new.planner) (vec_items c.take_call.new.notes)
+    (subst (λ asked. CallTaken (sheet_of c.loop-call.planner) asked c.loop-call.call (vec_items c.loop-call.notes) (vec_items c.take_call.new.notes) (sheet_of c.take_call.new.planner)) c.call_at-asked.ensures c.in_ok-take_call.ensures)

@@ -15,4 +15,4 @@ pub returns-in-Err : goal.returns-in-Err
 returns-in-Err c =
     let comes = refused (sheet_of c.args.planner.now) (said c.args.command.now) _ _ (sheet_of c.enter.new.self) _ (record { hours = omega arith; counted = omega arith; codes = omega arith }) c.in-Err.ensures in
     refusal_noted (sheet_of c.args.planner.now) (sheet_of c.enter.new.self) c.args.call (vec_items c.args.notes.now) (said c.args.command.now) _ _ _
-    (subst (λ n. Outcome (sheet_of c.args.planner.now) (said c.args.command.now) (Some n) (sheet_of c.enter.new.self)) (sym c.number-number.ensures) comes) c.add-note.ensures
+    (subst (λ n. Outcome (sheet_of c.args.planner.now) (said c.args.command.now) (Some n) (sheet_of c.enter.new.self)) (sym c.number-number.ensures) comes) c.add_note.ensures
