@@ -1,8 +1,6 @@
 -- The parts of the promise put together. Assumes nothing.
-use Rattle.std.proofs.Common.{◌≡◌, ℕ, ◌≤◌, Bool, List, length, ℤ, Some, None, Ok, Err, Option, Result, sym, refl, ap, ◌∙◌, subst, arith, lit≤}
-use Rattle.alike.specs.Theorems.{Alike}
+use Rattle.std.proofs.Common.{◌≡◌, ℕ, ◌≤◌, Bool, List, length, ℤ, Some, None, Ok, Err, Option, Result, sym, refl, ap, arith, lit≤}
 use Rattle.alike.proofs.Carrying.{alike_by_chart, chart_by_alike}
-use Rattle.book.specs.Commands.{Instruction}
 use Rattle.changes.specs.Faults.{first_fault, fault_number}
 use Rattle.changes.specs.declared.faults.CommandFault.{CommandFault}
 use Rattle.changes.specs.declared.faults.CommandFault.TheVariants.{StepNumber, StepPresent, StepAbsent, Duration, Kind, Name, RuleNumber, RuleTaken, RuleAbsent, Hours as HoursOut, Carry, Amount, StepNamed}

@@ -1,5 +1,5 @@
 -- A plan that was written, as its start hours and vessel numbers. Assumes nothing.
-use Rattle.std.proofs.Common.{◌≡◌, ℕ, zero, suc, ◌+◌, ◌*◌, ◌<◌, ◌≤◌, true, cond, not, eqb, List, [], ◌++◌, map, length, get_or, drop, pos, is_some, Some, None, Option, unwrap_or, sym, refl, ap, ◌∙◌, subst, arith, eq-eqb}
+use Rattle.std.proofs.Common.{◌≡◌, ℕ, zero, suc, ◌+◌, ◌*◌, ◌<◌, ◌≤◌, cond, not, eqb, List, ◌++◌, length, pos, is_some, Some, None, unwrap_or, sym, refl, ap, ◌∙◌, subst, arith, eq-eqb}
 use Rattle.std.proofs.lemmas.List.{append-nil, drop_all, get_or_default}
 use Rattle.std.proofs.lemmas.Bool.{false≢true, true≢false}
 use Rattle.brews.specs.Brews.{Vessel, Holds, HeldOnce}
@@ -7,9 +7,9 @@ use Rattle.choose.specs.Choosing.{HourRule}
 use Rattle.plan.specs.Plans.{CountsFit, start_hours, Settled, Written}
 use Rattle.sheet.proofs.Numbered.{numbered-map}
 use Rattle.sheet.specs.Limits.{Sound}
-use Rattle.sheet.specs.Sheets.{RuleSheet, numbered, step_at, has_step}
-use Rattle.sheet.specs.Timetables.{Timetable, Lawful}
-use Rattle.vessels.specs.Vessels.{at, Absent, all}
+use Rattle.sheet.specs.Sheets.{RuleSheet, numbered, step_at}
+use Rattle.sheet.specs.Timetables.{Lawful}
+use Rattle.vessels.specs.Vessels.{at, all}
 use Rattle.vessels.specs.declared.placed.Placed.{Placed}
 use Rattle.windows.proofs.Records.{AsTold, reached_long, reached_as_told}
 use Rattle.windows.proofs.Steps.{step_numbers}

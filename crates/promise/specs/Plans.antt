@@ -1,5 +1,5 @@
 -- What is told of a plan. Assumes nothing.
-use Rattle.std.specs.Prelude.{◌≡◌, ℕ, ◌+◌, ◌*◌, ◌<◌, ◌≤◌, cond, not, List, pos, Some, None, Ok, Err, Option, Result, ◌==◌}
+use Rattle.std.specs.Prelude.{◌≡◌, ℕ, ◌+◌, ◌*◌, ◌<◌, ◌≤◌, cond, not, List, pos, Some, None, Ok, Err, Result, ◌==◌}
 use Rattle.brews.specs.Brews.{Vessel}
 use Rattle.choose.specs.Choosing.{HourRule}
 use Rattle.kinds.specs.declared.alone.Hours.{Hours}

@@ -1,4 +1,4 @@
-use Rattle.std.proofs.Common.{◌≡◌, length, get_or, pos, ap, ◌∙◌, arith}
+use Rattle.std.proofs.Common.{◌≡◌, length, get_or, pos, ap, arith}
 use Rattle.std.proofs.lemmas.List.{ext_get_or}
 use Rattle.promise.proofs.charts.are_equal.Goals as goal
 

@@ -5,4 +5,4 @@ use Rattle.promise.proofs.charts.chart_of.Goals as goal
 
 pub returns-in-Ok : goal.returns-in-Ok
 returns-in-Ok g c =
-    subst (IsChart (g.S.Source.sheet c.args.source.now).told) (take_all 1024 c.wait-chart.new.chart (omega arith)) c.in-Ok.ensures.written.chart
+    subst (IsChart (g.S.Source.sheet c.args.source.now).told) (take_all 1024 c.wait_chart.new.chart (omega arith)) c.in-Ok.ensures.written.chart
