@@ -68,7 +68,7 @@ mod tests {
         // The offsets of the office's 2,048 lines have 7,637 digits together, and so have the tablet's.
         assert!(rt; printed.len() == 2 * (2048 * 10 + 7637) + 18);
         let end = b"tablet 4094 7\nperiod 24 bound 1\n";
-        assert!(rt; &printed.as_slice()[printed.len() - 32..] == end);
+        assert!(rt; &printed.as_slice()[printed.len() - 32..] == end.as_slice());
         Ok(())
     }
 }
