@@ -1,4 +1,4 @@
-ghost use Rattle.std.specs.Prelude.{◌≡◌, false, length};
+ghost use Rattle.std.specs.Prelude.{◌≡◌};
 ghost use Rattle.book.specs.Commands.{said};
 ghost use Rattle.changes.specs.Tests.{in_limits};
 ghost use Rattle.card.specs.Marks.{marked, marks_after};

@@ -1,5 +1,5 @@
 // Kinds of entry.
-ghost use Rattle.std.specs.Prelude.{◌≡◌, ℕ, true, false};
+ghost use Rattle.std.specs.Prelude.{◌≡◌, ℕ, false};
 ghost use Rattle.sheet.specs.declared.forms.Link.{Link};
 ghost use Rattle.chart.specs.Laws.{Laws, limit};
 

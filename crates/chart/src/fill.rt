@@ -1,5 +1,5 @@
 // Filling a working chart from a source.
-ghost use Rattle.std.specs.Prelude.{◌≡◌, ℕ, ◌+◌, ◌<◌, ◌≤◌, ◌⊎◌, length, Some};
+ghost use Rattle.std.specs.Prelude.{◌≡◌, ℕ, ◌+◌, ◌<◌, ◌≤◌, length, Some};
 ghost use Rattle.sheet.specs.declared.forms.Link.{Link};
 ghost use Rattle.walks.specs.Codes.{link_of};
 ghost use Rattle.chart.specs.Cells.{RaisedAt};

@@ -1,6 +1,6 @@
 // The sheet that a command asks for.
-ghost use Rattle.std.specs.Prelude.{◌≡◌, length, Some, None, slice_set};
-ghost use Rattle.book.specs.Commands.{said, add_step};
+ghost use Rattle.std.specs.Prelude.{◌≡◌, length, None, slice_set};
+ghost use Rattle.book.specs.Commands.{said};
 ghost use Rattle.changes.specs.Changes.{asked};
 ghost use Rattle.changes.specs.Faults.{first_fault};
 ghost use Rattle.commands.specs.Answers.{Changed};

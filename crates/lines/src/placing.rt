@@ -1,5 +1,5 @@
 // Fields written one behind another. Each function tells the place behind what it wrote.
-ghost use Rattle.std.specs.Prelude.{◌≡◌, ◌+◌, ◌^◌, ◌<◌, ◌≤◌, [], ◌∷◌, length, codes, decimal};
+ghost use Rattle.std.specs.Prelude.{◌≡◌, ◌+◌, ◌^◌, ◌<◌, ◌≤◌, [], ◌∷◌, length, decimal};
 ghost use Rattle.card_writing.specs.Outcomes.{Put};
 ghost use Rattle.lines.specs.Texts.{book_name, refused_text, report_text, period_text, step_text};
 

@@ -1,5 +1,5 @@
 // Single links on the walk along a loop.
-ghost use Rattle.std.specs.Prelude.{◌≡◌, ◌<◌, ◌≤◌, true, length, Decides};
+ghost use Rattle.std.specs.Prelude.{◌≡◌, ◌<◌, ◌≤◌, length, Decides};
 ghost use Rattle.chart.specs.Cells.{at as entry_at};
 ghost use Rattle.kinds.specs.Together.{no_link};
 ghost use Rattle.sheet.specs.Links.{IsLink};

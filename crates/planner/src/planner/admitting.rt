@@ -1,5 +1,5 @@
 // Entering commands where only the numbers of refusals are wanted.
-ghost use Rattle.std.specs.Prelude.{◌≡◌, ◌≤◌, length};
+ghost use Rattle.std.specs.Prelude.{◌≤◌, length};
 ghost use Rattle.book.specs.Commands.{said};
 ghost use Rattle.planner.specs.Admitting.{PlannerIf, Admitted};
 ghost use Rattle.planner.specs.Entering.{sheet_of};
