@@ -1,7 +1,7 @@
 -- Commands that are spelled one after another are read one after another. Assumes nothing.
 use Rattle.std.proofs.Common.{◌≡◌, ℕ, ◌+◌, ◌<◌, true, List, [], ◌∷◌, length, drop, Some, Ok, sym, refl, ap, ◌∙◌, subst, arith, length-append}
 use Rattle.std.proofs.lemmas.List.{length-drop, drop-drop, drop_at}
-use Rattle.std.specs.List.{AllByRecursion as All}
+use Rattle.std.specs.List.{AllByRecursion}
 use Rattle.book.proofs.Spelling.{reads_back}
 use Rattle.book.proofs.Walking.{next_inside, next_past, onward_inside, walkable}
 use Rattle.book.specs.Commands.{Instruction, add_step, remove_step, set_duration, put_after, put_within, put_at, remove_rule, set_period, set_span, set_vessels, width, decoded}
@@ -30,7 +30,7 @@ some_bytes (set_period period) = omega arith
 some_bytes (set_span span) = omega arith
 some_bytes (set_vessels kind count) = omega arith
 
-walks_on : (book : List ℕ) (is : List Instruction) (place : ℕ) → All Spells is → drop place book ≡ spelled_all is → Walk book place (placed_from place is)
+walks_on : (book : List ℕ) (is : List Instruction) (place : ℕ) → AllByRecursion Spells is → drop place book ≡ spelled_all is → Walk book place (placed_from place is)
 walks_on book [] place ok rest = ends (next_past book place (omega (arith, length-drop place book, ap length rest)))
 walks_on book (i ∷ is) place ok rest =
     let back = reads_back i (spelled_all is) ok.0 in
@@ -43,5 +43,5 @@ walks_on book (i ∷ is) place ok rest =
     (subst (λ p. Walk book p (placed_from (place + width i) is)) (sym onto) (walks_on book is (place + width i) ok.1 left))
 
 -- what a reader tells of them is what was spelled, each in its place
-pub items_spelled : (is : List Instruction) → All Spells is → items (spelled_all is) ≡ placed_from 0 is
+pub items_spelled : (is : List Instruction) → AllByRecursion Spells is → items (spelled_all is) ≡ placed_from 0 is
 items_spelled is ok = let book = spelled_all is in sym ((walkable book).only _ (walks_on book is 0 ok refl))

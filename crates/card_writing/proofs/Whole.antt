@@ -7,7 +7,7 @@ use Rattle.std.proofs.ByRecursion.{All-append}
 use Rattle.std.proofs.lemmas.List.{append-nil, length-map}
 use Rattle.std.proofs.lemmas.Bool.{and_from}
 use Rattle.std.specs.Option.{option_map}
-use Rattle.std.specs.List.{AllByRecursion as All}
+use Rattle.std.specs.List.{AllByRecursion}
 use Rattle.book.specs.Commands.{Instruction, add_step, put_after, put_within, put_at, set_period, set_span}
 use Rattle.card.proofs.Checks.{verdict_short}
 use Rattle.card.specs.Cards.{ended, judged, verdict, stands_for}
@@ -46,15 +46,15 @@ full_prop sheet x y =
       counts = Π_prop (λ kind. le_prop) x.counts y.counts i;
     }
 
-all_up_to : (P : Instruction → Type 0) (what : ℕ → List Instruction) → ((k : ℕ) → All P (what k)) → (n : ℕ) → All P (up_to what n)
-all_up_to P what each zero = subst (All P) (sym (up_to_none what)) tt
-all_up_to P what each (suc n) = subst (All P) (sym (up_to_suc what n)) (All-append P (up_to what n) (what (suc n)) (all_up_to P what each n) (each (suc n)))
+all_up_to : (P : Instruction → Type 0) (what : ℕ → List Instruction) → ((k : ℕ) → AllByRecursion P (what k)) → (n : ℕ) → AllByRecursion P (up_to what n)
+all_up_to P what each zero = subst (AllByRecursion P) (sym (up_to_none what)) tt
+all_up_to P what each (suc n) = subst (AllByRecursion P) (sym (up_to_suc what n)) (All-append P (up_to what n) (what (suc n)) (all_up_to P what each n) (each (suc n)))
 
-step_spells : (n : ℕ) (o : Option Step) → NameFits o → All Spells (step_command n o)
+step_spells : (n : ℕ) (o : Option Step) → NameFits o → AllByRecursion Spells (step_command n o)
 step_spells n None fits = tt
 step_spells n (Some step) fits = (eq-eqb _ 8 fits.0, tt)
 
-rule_spells : (r : ℕ) (rule : Rule) → All Spells (rule_command r rule)
+rule_spells : (r : ℕ) (rule : Rule) → AllByRecursion Spells (rule_command r rule)
 rule_spells r Free = tt
 rule_spells r (After u v gap carry) = (refl, tt)
 rule_spells r (Within u v hours) = (refl, tt)
@@ -192,7 +192,7 @@ module _ (sheet : Sheet) (ok : FullSound sheet) where
       let second = subst (λ table. Leads all_steps.stage (built sheet.steps (replicate 96 Free)) (rules_up_to sheet.rules 96) all_rules.stage (built sheet.steps table)) rules all_rules.leads in
       leads_both hours_lead (leads_both first second)
 
-  spells : All Spells (commands_of sheet)
+  spells : AllByRecursion Spells (commands_of sheet)
   spells =
       All-append Spells (hours_of sheet) _ (refl, (refl, tt))
       (All-append Spells (steps_up_to sheet.steps 31) (rules_up_to sheet.rules 96) (all_up_to Spells _ (λ n. step_spells n _ (ok.names n)) 31) (all_up_to Spells _ (λ r. rule_spells r _) 96))

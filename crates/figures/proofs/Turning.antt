@@ -2,7 +2,7 @@
 -- every other link. Assumes nothing.
 use Rattle.std.proofs.Common.{◌≡◌, ℕ, zero, suc, ◌⊎◌, List, [], ◌∷◌, ◌++◌, replicate, ℤ, pos, ◌≤ℤ◌, Some, None, Option, sym, refl, ap, ◌∙◌, subst, inl, inr, arith}
 use lib.Signed.{le_z_yes}
-use Rattle.std.specs.List.{AllByRecursion as All}
+use Rattle.std.specs.List.{AllByRecursion}
 use Rattle.std.proofs.lemmas.Int.{ints}
 use Rattle.std.proofs.lemmas.Bool.{false≢true}
 use Rattle.loops.specs.Loops.{codes_of}
@@ -67,7 +67,7 @@ light i j (l ∷ ls) run = by (kept l run.1) (light l.to j ls run.2)
         inr (record { front = l ∷ turned.front; rest = turned.rest; parts = ap (λ xs. l ∷ xs) turned.parts })
     by (inl here) (inl later) = let e = ap (start t) run.0 in inl (omega (arith, ints))
 
-all_at : (P : ℕ → Type 0) (front : List Link) (m : Link) (rest : List Link) → All P (places (front ++ (m ∷ rest))) → P m.from
+all_at : (P : ℕ → Type 0) (front : List Link) (m : Link) (rest : List Link) → AllByRecursion P (places (front ++ (m ∷ rest))) → P m.from
 all_at P [] m rest every = every.0
 all_at P (f ∷ front) m rest every = all_at P front m rest every.1
 

@@ -4,7 +4,7 @@ use Rattle.std.proofs.ByRecursion.{All-push, All-weaker}
 use Rattle.std.proofs.lemmas.List.{map_push, length-map, length_push, set_at, drop_more}
 use Rattle.std.proofs.lemmas.Int.{ints}
 use Rattle.std.proofs.lemmas.Bool.{cases_lt}
-use Rattle.std.specs.List.{AllByRecursion as All}
+use Rattle.std.specs.List.{AllByRecursion}
 use Rattle.chart.proofs.Filling.{ends_low}
 use Rattle.chart.specs.Cells.{at}
 use Rattle.chart.specs.Positions.{place, position}
@@ -31,7 +31,7 @@ next_accounts {s} {p} {k} {a} {xs} {l} next = (next.begins, by_way next.goes)
     by_way (inl whole) = inl whole
     by_way (inr part) = inr (part.0, part.1)
 
-distinct_push : (xs : List ℕ) (x : ℕ) → Distinct xs → All (λ y. y ≡ x → ⊥) xs → Distinct (xs ++ (x ∷ []))
+distinct_push : (xs : List ℕ) (x : ℕ) → Distinct xs → AllByRecursion (λ y. y ≡ x → ⊥) xs → Distinct (xs ++ (x ∷ []))
 distinct_push [] x once apart = (tt, tt)
 distinct_push (y ∷ ys) x once apart = (All-push (λ z. y ≡ z → ⊥) ys x once.0 apart.0, distinct_push ys x once.1 apart.1)
 
@@ -54,7 +54,7 @@ pub record Walked (s : RuleSheet) (p : Places) (k : ℕ) (xs : List Counted) (be
   pub adds : (run_weight s.period links +ℤ (at no_link xs here k).hours) ≡ (at no_link xs k k).hours
   pub once : Distinct (places links)
   -- from every place that was met more links were left
-  pub more : All (λ v. left k xs here < left k xs (position p v)) (places links)
+  pub more : AllByRecursion (λ v. left k xs here < left k xs (position p v)) (places links)
   pub counted : count ≡ length links
   pub written : codes ≡ codes_of links ++ drop count before
   pub low : here < p.count
@@ -140,7 +140,7 @@ module _ (sheet : SoundSheet) {p : Places} {k : ℕ} {xs : List Counted} (stoppe
               adds = omega (arith, ints);
               once = met_once;
               more =
-                  subst (All (λ v. left k xs (position p l.to) < left k xs (position p v))) (sym (map_push (λ m. m.from) walked.links l))
+                  subst (AllByRecursion (λ v. left k xs (position p l.to) < left k xs (position p v))) (sym (map_push (λ m. m.from) walked.links l))
                   (All-push (λ v. left k xs (position p l.to) < left k xs (position p v)) (places walked.links) l.from
                   (All-weaker (λ v. left k xs here < left k xs (position p v)) (λ v. left k xs (position p l.to) < left k xs (position p v)) (λ v h. omega arith) (places walked.links) walked.more)
                   (omega arith));

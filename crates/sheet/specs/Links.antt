@@ -1,6 +1,6 @@
 -- Links between places, runs of links and loops. Assumes nothing.
 use Rattle.std.specs.Prelude.{◌≡◌, ℕ, ◌+◌, ◌*◌, ◌<◌, List, [], ◌∷◌, map, length, ℤ, pos, ◌+ℤ◌, ◌-ℤ◌, neg_ℤ, ◌≤ℤ◌, ◌≢◌}
-use Rattle.std.specs.List.{AllByRecursion as All}
+use Rattle.std.specs.List.{AllByRecursion}
 use Rattle.sheet.specs.declared.forms.Link.{Link}
 use Rattle.sheet.specs.declared.forms.Rule.TheVariants.{After, Within, At}
 use Rattle.sheet.specs.Sheets.{RuleSheet, rule_at, HasStep, duration}
@@ -60,7 +60,7 @@ run_carries (l ∷ ls) = l.carries + run_carries ls
 -- No number comes twice.
 abbrev pub Distinct : List ℕ → Type 0
 Distinct [] = Unit {0}
-Distinct (x ∷ xs) = All (λ y. x ≢ y) xs × Distinct xs
+Distinct (x ∷ xs) = AllByRecursion (λ y. x ≢ y) xs × Distinct xs
 
 -- The places at which the links begin: those that a closed run meets.
 abbrev pub places : List Link → List ℕ

@@ -1,7 +1,7 @@
 -- A closed run of positive weight contains a loop of positive weight: as long as a place comes twice, the run falls
 -- into two shorter closed runs, of which one is heavy. Assumes nothing.
 use Rattle.std.proofs.Common.{◌≡◌, ℕ, zero, suc, ◌<◌, ◌≤◌, ◌⊎◌, List, [], ◌∷◌, ◌++◌, length, pos, ◌+ℤ◌, ◌≤ℤ◌, sym, refl, ap, ◌∙◌, subst, inl, inr, ⊎_elim, arith, length-append}
-use Rattle.std.specs.List.{ContainsAt as Has, AllByRecursion as All}
+use Rattle.std.specs.List.{ContainsAt, AllByRecursion}
 use Rattle.std.proofs.ByRecursion.{All-append, all-has, all_has_itself, All-weaker, has_append_left, has_append_right}
 use Rattle.std.proofs.lemmas.Int.{ints, by_lt_z}
 use Rattle.std.proofs.lemmas.Bool.{cases_eq}
@@ -29,7 +29,7 @@ record Again (ls : List Link) : Type 0 where
   parts : ls ≡ front ++ ((first ∷ between) ++ (second ∷ rest))
   same : first.from ≡ second.from
 
-find : (place : ℕ) (ls : List Link) → All (λ y. place ≡ y → ⊥) (places ls) ⊎ Begins place ls
+find : (place : ℕ) (ls : List Link) → AllByRecursion (λ y. place ≡ y → ⊥) (places ls) ⊎ Begins place ls
 find place [] = inl tt
 find place (l ∷ ls) =
     ⊎_elim (λ e. inr (record { front = []; link = l; rest = ls; parts = refl; here = e }))
@@ -85,8 +85,8 @@ record Parts (s : RuleSheet) (period : ℕ) (i : ℕ) (ls : List Link) : Type 0 
   base : ℕ
   inner_closed : Run s base base inner
   outer_closed : Run s i i outer
-  inner_within : All (Has ls) inner
-  outer_within : All (Has ls) outer
+  inner_within : AllByRecursion (ContainsAt ls) inner
+  outer_within : AllByRecursion (ContainsAt ls) outer
   inner_shorter : length inner < length ls
   outer_shorter : length outer < length ls
   weights : run_weight period ls ≡ run_weight period inner +ℤ run_weight period outer
@@ -105,8 +105,8 @@ fall_apart s period i ls run a =
     let weighs = ap (run_weight period) a.parts ∙ weight_join period front (middle ++ tail) in
     let weighs_inner = weight_join period middle tail in
     let weighs_outer = weight_join period front tail in
-    let held : (xs : List Link) → ((x : Link) → Has xs x → Has (front ++ (middle ++ tail)) x) → All (Has ls) xs =
-    λ xs into. All-weaker (Has xs) (Has ls) (λ x h. subst (λ (ys : List Link). Has ys x) (sym a.parts) (into x h)) xs (all_has_itself xs) in
+    let held : (xs : List Link) → ((x : Link) → ContainsAt xs x → ContainsAt (front ++ (middle ++ tail)) x) → AllByRecursion (ContainsAt ls) xs =
+    λ xs into. All-weaker (ContainsAt xs) (ContainsAt ls) (λ x h. subst (λ (ys : List Link). ContainsAt ys x) (sym a.parts) (into x h)) xs (all_has_itself xs) in
     record {
       inner = middle;
       outer = front ++ tail;
@@ -115,7 +115,7 @@ fall_apart s period i ls run a =
       outer_closed = run_join s i one.0 i front tail one.1 (subst (λ (k : ℕ). Run s k i tail) meet two.2);
       inner_within = held middle (λ x h. has_append_right front (middle ++ tail) x (has_append_left middle tail x h));
       outer_within =
-          All-append (Has ls) front tail (held front (has_append_left front (middle ++ tail)))
+          All-append (ContainsAt ls) front tail (held front (has_append_left front (middle ++ tail)))
           (held tail (λ x h. has_append_right front (middle ++ tail) x (has_append_right middle tail x h)));
       inner_shorter = omega arith;
       outer_shorter = omega arith;
@@ -124,13 +124,13 @@ fall_apart s period i ls run a =
 
 -- the loop of a part is a loop of the whole
 widen : {s : RuleSheet} {period : ℕ} {part : List Link} (ls : List Link)
-    → All (Has ls) part → HeavyLoop s period part → HeavyLoop s period ls
+    → AllByRecursion (ContainsAt ls) part → HeavyLoop s period part → HeavyLoop s period ls
 widen {part = part} ls within h =
     record {
       links = h.links;
       loop = h.loop;
       heavy = h.heavy;
-      within = All-weaker (Has part) (Has ls) (λ x. all-has (Has ls) part x within) h.links h.within;
+      within = All-weaker (ContainsAt part) (ContainsAt ls) (λ x. all-has (ContainsAt ls) part x within) h.links h.within;
     }
 
 some_links : (period : ℕ) (ls : List Link) → pos 1 ≤ℤ run_weight period ls → 0 < length ls

@@ -1,6 +1,6 @@
 -- What is proved of sheets, timetables and links in general. Assumes nothing.
 use Rattle.std.specs.Prelude.{◌≡◌, ℕ, ◌<◌, ◌≤◌, List, length, ℤ, pos, neg_ℤ, ◌≤ℤ◌}
-use Rattle.std.specs.List.{ContainsAt as Has, AllByRecursion as All}
+use Rattle.std.specs.List.{ContainsAt, AllByRecursion}
 use Rattle.sheet.specs.declared.forms.Link.{Link}
 use Rattle.sheet.specs.Sheets.{RuleSheet, Present}
 use Rattle.sheet.specs.Limits.{Sound}
@@ -49,7 +49,7 @@ pub record HeavyLoop (s : RuleSheet) (period : ℕ) (run : List Link) : Type 0 w
   pub links : List Link
   pub loop : Loop s links
   pub heavy : pos 1 ≤ℤ run_weight period links
-  pub within : All (Has run) links
+  pub within : AllByRecursion (ContainsAt run) links
 
 abbrev pub HeavyRunsHaveLoops : Type 0
 HeavyRunsHaveLoops =
@@ -62,7 +62,7 @@ LongerPeriodsKeep =
 
 -- Different numbers below n number at most n; so a sound sheet's loops have at most 32 links.
 pub record LoopsAreShort : Type 0 where
-  pub numbers : (n : ℕ) (xs : List ℕ) → All (λ x. x < n) xs → Distinct xs → length xs ≤ n
+  pub numbers : (n : ℕ) (xs : List ℕ) → AllByRecursion (λ x. x < n) xs → Distinct xs → length xs ≤ n
   pub loops : (s : RuleSheet) → Sound s → (ls : List Link) → Loop s ls → length ls ≤ 32
 
 -- The waits of a sound sheet lie between -2,000 and 2,000.
