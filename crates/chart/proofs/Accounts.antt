@@ -44,34 +44,34 @@ module _ {E : Type 0} {neutral : E} {sum : E → E → E} {under : E → E → T
     (is : IsPlaces sound.told p) where
   -- two positions of one place are one
   pub same_position : (a b : ℕ) → a < p.count → b < p.count → place p a ≡ place p b → a ≡ b
-  same_position a b low-a low-b e = sym (is.position_of a low-a) ∙ ap (position p) e ∙ is.position_of b low-b
+  same_position a b low_a low_b e = sym (is.position_of a low_a) ∙ ap (position p) e ∙ is.position_of b low_b
 
   module _ (k : ℕ) (xs : List E) (chart : Worked neutral sum value under within sound.told p k xs) where
     -- a link's value is under the entry between its positions
     link_under : (a b : ℕ) (l : Link) → a < p.count → b < p.count → IsLink sound.told l → l.from ≡ place p a
         → l.to ≡ place p b → under (value sound.told.period l) (cells.at neutral xs a b)
-    link_under a b l low-a low-b link from to =
-        let first : position p l.from ≡ a = ap (position p) from ∙ is.position_of a low-a in
-        let last : position p l.to ≡ b = ap (position p) to ∙ is.position_of b low-b in
+    link_under a b l low_a low_b link from to =
+        let first : position p l.from ≡ a = ap (position p) from ∙ is.position_of a low_a in
+        let last : position p l.to ≡ b = ap (position p) to ∙ is.position_of b low_b in
         subst (λ (v : ℕ). under (value sound.told.period l) (cells.at neutral xs v b)) first
         (subst (λ (v : ℕ). under (value sound.told.period l) (cells.at neutral xs (position p l.from) v)) last
         (chart.links l link))
 
     pub run_under : (a b : ℕ) (ls : List Link) → a < p.count → b < p.count → Run sound.told (place p a) (place p b) ls
         → Through (λ v. position p v < k) ls → under (worth neutral sum value sound.told.period ls) (cells.at neutral xs a b)
-    run_under a b [] low-a low-b run inner =
-        subst (λ (v : ℕ). under neutral (cells.at neutral xs a v)) (same_position a b low-a low-b run) (chart.diagonal a low-a)
-    run_under a b (l ∷ []) low-a low-b run inner =
+    run_under a b [] low_a low_b run inner =
+        subst (λ (v : ℕ). under neutral (cells.at neutral xs a v)) (same_position a b low_a low_b run) (chart.diagonal a low_a)
+    run_under a b (l ∷ []) low_a low_b run inner =
         subst (λ (x : E). under x (cells.at neutral xs a b)) (sym (laws.right_neutral (value sound.told.period l)))
-        (link_under a b l low-a low-b run.1 run.0 run.2)
-    run_under a b (l ∷ m ∷ ls) low-a low-b run inner =
+        (link_under a b l low_a low_b run.1 run.0 run.2)
+    run_under a b (l ∷ m ∷ ls) low_a low_b run inner =
         let low = ends_low laws sound p is l run.1 in
         let there = (link_ends sound.told sound.sound l run.1).1 in
         let here : place p (position p l.to) ≡ l.to = is.place_of l.to low.1 there in
-        let first = link_under a (position p l.to) l low-a low.3 run.1 run.0 (sym here) in
-        let rest = run_under (position p l.to) b (m ∷ ls) low.3 low-b
+        let first = link_under a (position p l.to) l low_a low.3 run.1 run.0 (sym here) in
+        let rest = run_under (position p l.to) b (m ∷ ls) low.3 low_b
         (subst (λ (v : ℕ). Run sound.told v (place p b) (m ∷ ls)) (sym here) run.2) inner.1 in
-        laws.transitive _ _ _ (both laws _ _ _ _ first rest) (chart.triangle (position p l.to) a b inner.0 low-a low-b)
+        laws.transitive _ _ _ (both laws _ _ _ _ first rest) (chart.triangle (position p l.to) a b inner.0 low_a low_b)
 
     -- once position 0 is processed, the inner places of every entry's run are at positions below k
     pub strictly : 0 < k → (ls : List Link) → Through (Processed p k) ls → Through (λ v. position p v < k) ls
@@ -80,8 +80,8 @@ module _ {E : Type 0} {neutral : E} {sum : E → E → E} {under : E → E → T
     by_run : (a b : ℕ) (ls : List Link) → 0 < k → a < p.count → b < p.count → Run sound.told (place p a) (place p b) ls
         → Through (λ v. position p v < k) ls → worth neutral sum value sound.told.period ls ≡ cells.at neutral xs a b
         → ((a ≡ b) × (cells.at neutral xs a b ≡ neutral)) ⊎ ((l : Link) × Account neutral sum value sound.told p k a b xs l)
-    by_run a b [] h low-a low-b run inner comes = inl (same_position a b low-a low-b run, sym comes)
-    by_run a b (l ∷ []) h low-a low-b run inner comes =
+    by_run a b [] h low_a low_b run inner comes = inl (same_position a b low_a low_b run, sym comes)
+    by_run a b (l ∷ []) h low_a low_b run inner comes =
         inr (
           l,
           record {
@@ -90,15 +90,15 @@ module _ {E : Type 0} {neutral : E} {sum : E → E → E} {under : E → E → T
             goes = inl (run.2, sym (laws.right_neutral (value sound.told.period l)) ∙ comes);
           },
         )
-    by_run a b (l ∷ m ∷ ls) h low-a low-b run inner comes =
+    by_run a b (l ∷ m ∷ ls) h low_a low_b run inner comes =
         let low = ends_low laws sound p is l run.1 in
         let there = (link_ends sound.told sound.sound l run.1).1 in
         let here : place p (position p l.to) ≡ l.to = is.place_of l.to low.1 there in
-        let first = link_under a (position p l.to) l low-a low.3 run.1 run.0 (sym here) in
-        let rest = run_under (position p l.to) b (m ∷ ls) low.3 low-b
+        let first = link_under a (position p l.to) l low_a low.3 run.1 run.0 (sym here) in
+        let rest = run_under (position p l.to) b (m ∷ ls) low.3 low_b
         (subst (λ (v : ℕ). Run sound.told v (place p b) (m ∷ ls)) (sym here) run.2) inner.1 in
         let no_more = laws.transitive _ _ _ (laws.before _ _ (cells.at neutral xs (position p l.to) b) first)
-        (chart.triangle (position p l.to) a b inner.0 low-a low-b) in
+        (chart.triangle (position p l.to) a b inner.0 low_a low_b) in
         let no_less = subst (λ (x : E). under x (sum (value sound.told.period l) (cells.at neutral xs (position p l.to) b))) comes
         (laws.behind (value sound.told.period l) _ _ rest) in
         inr (
@@ -109,9 +109,9 @@ module _ {E : Type 0} {neutral : E} {sum : E → E → E} {under : E → E → T
     -- an entry is that of a place to itself without a link, or some first link accounts for it
     pub accounted : (a b : ℕ) → 0 < k → a < p.count → b < p.count
         → ((a ≡ b) × (cells.at neutral xs a b ≡ neutral)) ⊎ ((l : Link) × Account neutral sum value sound.told p k a b xs l)
-    accounted a b h low-a low-b =
-        let made = chart.made a b low-a low-b in
-        by_run a b made.run h low-a low-b made.joins (strictly h made.run made.inner) made.comes
+    accounted a b h low_a low_b =
+        let made = chart.made a b low_a low_b in
+        by_run a b made.run h low_a low_b made.joins (strictly h made.run made.inner) made.comes
 
     at_first : (ls : List Link) → k ≡ 0 → Run sound.told (place p 0) (place p 0) ls → Through (Processed p k) ls
         → worth neutral sum value sound.told.period ls ≡ neutral

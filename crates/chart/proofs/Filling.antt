@@ -75,9 +75,9 @@ module _ {E : Type 0} {neutral : E} {sum : E → E → E} {under : E → E → T
   pub both_edge : (a b : ℕ) (xs : List E) (to on e : E) → a < p.count → b < p.count → (a ≡ b → ⊥) → (a ≡ 0 → ⊥) → (b ≡ 0 → ⊥)
       → StartedTo neutral sum value under within sound.told p a b xs → to ≡ at neutral xs a 0 → on ≡ at neutral xs 0 b
       → e ≡ sum to on → Edge neutral sum value under within sound.told p a b e
-  both_edge a b xs to on e low-a low-b apart not_a not-b started to_is on-is e-is =
-      let first = to_zero a b xs low-a (omega arith) started in
-      let last = from_zero a b xs low-b (omega arith) started in
+  both_edge a b xs to on e low_a low_b apart not_a not_b started to_is on_is e_is =
+      let first = to_zero a b xs low_a (omega arith) started in
+      let last = from_zero a b xs low_b (omega arith) started in
       let way : sum (at neutral xs a 0) (at neutral xs 0 b) ≡ e = cc in
       let here : position p (place p 0) ≡ 0 = is.position_of 0 is.some in
       record {
@@ -89,7 +89,7 @@ module _ {E : Type 0} {neutral : E} {sum : E → E → E} {under : E → E → T
               short = subst (within 2) way (laws.joined 1 1 _ _ (first.edge (inr refl)) (last.edge (inl refl)));
               diagonal = λ same. absurd (apart same);
             };
-        edge = λ h. absurd (⊎_elim not_a not-b h);
+        edge = λ h. absurd (⊎_elim not_a not_b h);
       }
 
   pub started_none : (xs : List E) → StartedTo neutral sum value under within sound.told p 0 0 xs
@@ -100,7 +100,7 @@ module _ {E : Type 0} {neutral : E} {sum : E → E → E} {under : E → E → T
       → StartedTo neutral sum value under within sound.told p r c xs
       → Edge neutral sum value under within sound.told p r c e
       → StartedTo neutral sum value under within sound.told p r (c + 1) (set xs (32 * r + c) e)
-  started_more r c xs e low-r low-c size started edge a b h l before =
+  started_more r c xs e low_r low_c size started edge a b h l before =
       let few = is.few in
       ⊎_elim
       (λ (same : (a ≡ r) × (b ≡ c)).
@@ -158,7 +158,7 @@ module _ {E : Type 0} {neutral : E} {sum : E → E → E} {under : E → E → T
   pub filled_more : (code : ℕ) (l : Link) (e : E) (xs ys : List E) → IsLink sound.told l → l.code ≡ code
       → e ≡ value sound.told.period l → RaisedAt neutral under (position p l.from) (position p l.to) e xs ys
       → FilledTo neutral sum value under within sound.told p code xs → FilledTo neutral sum value under within sound.told p (code + 1) ys
-  filled_more code l e xs ys link has e-is raised filled =
+  filled_more code l e xs ys link has e_is raised filled =
       record { starts = starts; links = links }
     where
       one : (a b : ℕ) → b < p.count
@@ -190,7 +190,7 @@ module _ {E : Type 0} {neutral : E} {sum : E → E → E} {under : E → E → T
           ⊎_elim
           (λ same. subst (Start neutral sum value under within sound.told p (position p l.from) (position p l.to)) (sym same) old)
           (λ same.
-          let is_value = same ∙ e-is in
+          let is_value = same ∙ e_is in
           record {
             made =
                 subst (MadeOf neutral sum value sound.told p 0 (position p l.from) (position p l.to)) (sym is_value)
@@ -214,13 +214,13 @@ module _ {E : Type 0} {neutral : E} {sum : E → E → E} {under : E → E → T
 
       links : (m : Link) → IsLink sound.told m → m.code < code + 1
           → under (value sound.told.period m) (at neutral ys (position p m.from) (position p m.to))
-      links m is-link h =
+      links m is_link h =
           ⊎_elim
           (λ (lt : m.code < code).
-          laws.transitive _ _ _ (filled.links m is-link lt) (rises _ _ (ends_low m is-link).3))
+          laws.transitive _ _ _ (filled.links m is_link lt) (rises _ _ (ends_low m is_link).3))
           (λ (ge : code ≤ m.code).
-          let same : l ≡ m = codes_apart sound.told sound.sound l m link is-link (omega arith) in
-          let top = subst (λ (x : E). under x (at neutral ys (position p l.from) (position p l.to))) e-is raised.here.meets in
+          let same : l ≡ m = codes_apart sound.told sound.sound l m link is_link (omega arith) in
+          let top = subst (λ (x : E). under x (at neutral ys (position p l.from) (position p l.to))) e_is raised.here.meets in
           subst
           (λ (x : Link). under (value sound.told.period x) (at neutral ys (position p x.from) (position p x.to))) same top)
           (cases_lt m.code code)

@@ -16,13 +16,13 @@ module _ {E : Type 0} {neutral : E} {sum : E → E → E} {under : E → E → T
     (is : IsPlaces sound.told p) (xs : List E) (filled : FilledTo neutral sum value under within sound.told p 432 xs) where
   made_of : (k a b : ℕ) (e : E) → k ≤ p.count → a < p.count → b < p.count → Made neutral sum under xs k a b e
       → MadeOf neutral sum value sound.told p k a b e
-  made_of k a b e high low-a low-b (first _ _ _) =
-      made_later laws sound.told p 0 k a b _ (omega arith) (filled.starts a b low-a low-b).made
-  made_of k a b e high low-a low-b (over _ m _ _ x y lt to on) =
+  made_of k a b e high low_a low_b (first _ _ _) =
+      made_later laws sound.told p 0 k a b _ (omega arith) (filled.starts a b low_a low_b).made
+  made_of k a b e high low_a low_b (over _ m _ _ x y lt to on) =
       let here = is.position_of m (omega arith) in
       made_join laws sound.told p k a m b x y (omega arith)
-      (made_later laws sound.told p m k a m x (omega arith) (made_of m a m x (omega arith) low-a (omega arith) to))
-      (made_later laws sound.told p m k m b y (omega arith) (made_of m m b y (omega arith) (omega arith) low-b on))
+      (made_later laws sound.told p m k a m x (omega arith) (made_of m a m x (omega arith) low_a (omega arith) to))
+      (made_later laws sound.told p m k m b y (omega arith) (made_of m m b y (omega arith) (omega arith) low_b on))
 
   pub worked : (k : ℕ) (ys : List E) → k ≤ p.count → ClosedTo neutral sum under within p.count k xs ys
       → Worked neutral sum value under within sound.told p k ys

@@ -42,7 +42,7 @@ pub(crate) fn relax<E: Entry>(cells: &mut [E], row: usize, by: usize, column: us
 // Raises the cells of a row by the way over position `by`.
 pub(crate) fn raise_row<E: Entry>(cells: &mut [E], row: usize, by: usize, count: usize)
     requires room { (1024 ≤ length cells.old) × ((row < count) × ((by < count) × (count ≤ 32))) }
-    requires within { (E.within limit (at E.neutral cells.old row by)) × (((b : ℕ) → b < count → E.within limit (at E.neutral cells.old by b))) }
+    requires within { (E.within limit (at E.neutral cells.old row by)) × ((b : ℕ) → b < count → E.within limit (at E.neutral cells.old by b)) }
     ensures { RowTo E.neutral E.sum E.under row by count cells.old cells.new }
 {
     let to = get(cells, row, by);

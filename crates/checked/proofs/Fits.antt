@@ -25,7 +25,7 @@ module _ (sheet : Sheet) where
       → length sheet.steps ≡ 31 → EachOf 31 None StepKept sheet.steps
       → length sheet.rules ≡ 96 → EachOf 96 Free (RuleKept sheet) sheet.rules
       → length sheet.stock ≡ 8 → EachOf 8 0 CountKept sheet.stock → FullSound sheet
-  full_sound period span long steps long-rules rules kinds counts =
+  full_sound period span long steps long_rules rules kinds counts =
       let kept = each_numbered 31 None StepKept sheet.steps (tt, tt) long steps in
       record {
         rules =
@@ -33,9 +33,9 @@ module _ (sheet : Sheet) where
               period = period;
               span = span;
               step_count = length-map sheet.steps (option_map without_name) ∙ long;
-              rule_count = long-rules;
+              rule_count = long_rules;
               steps = λ n. subst StepFits (sym (told_step sheet n)) (kept n).0;
-              rules = each_numbered 96 Free (RuleKept sheet) sheet.rules tt long-rules rules;
+              rules = each_numbered 96 Free (RuleKept sheet) sheet.rules tt long_rules rules;
             };
         names = λ n. (kept n).1;
         kinds = kinds;

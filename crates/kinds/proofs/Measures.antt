@@ -53,9 +53,9 @@ module _ {E : Type 0} {neutral : E} {sum : E → E → E} {under : E → E → T
     module _ {within : ℕ → E → Type 0} (chart : Worked neutral sum value under within sound.told p p.count xs) where
       triangle : (a m b : ℕ) → a < p.count → m < p.count → b < p.count
           → (hours (at neutral xs a m) +ℤ hours (at neutral xs m b)) ≤ℤ hours (at neutral xs a b)
-      triangle a m b low-a low-m low-b =
+      triangle a m b low_a low_m low_b =
           let sum_is_lem = measures.adds (at neutral xs a m) (at neutral xs m b) in
-          let way = measures.ranks _ _ (chart.triangle m a b low-m low-a low-b) in
+          let way = measures.ranks _ _ (chart.triangle m a b low_m low_a low_b) in
           omega (arith, ints)
 
       pub closed_matrix : Closed sound.told (hours_between neutral hours p xs)

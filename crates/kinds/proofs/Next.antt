@@ -33,15 +33,15 @@ module _ (sound : SoundSheet) (p : Places) (is : IsPlaces sound.told p) (k : ℕ
     (chart : Worked no_link counted_sum one_link RanksUnder CountedWithin sound.told p k xs) where
   -- an entry without a link is that of a place to itself
   pub no_links : (a b : ℕ) → a < p.count → b < p.count → (at no_link xs a b).links ≡ 0 → (a ≡ b) × (at no_link xs a b ≡ no_link)
-  no_links a b low-a low-b none =
-      let made = chart.made a b low-a low-b in
+  no_links a b low_a low_b none =
+      let made = chart.made a b low_a low_b in
       let count : length made.run ≡ 0
       = sym (worth_links sound.told.period made.run) ∙ ap (λ x. x.links) made.comes ∙ none in
       empty made.run count made.joins made.comes
     where
       empty : (ls : List Link) → length ls ≡ 0 → Run sound.told (place p a) (place p b) ls
           → worth no_link counted_sum one_link sound.told.period ls ≡ at no_link xs a b → (a ≡ b) × (at no_link xs a b ≡ no_link)
-      empty [] count run comes = (same_position counted_laws sound p is a b low-a low-b run, sym comes)
+      empty [] count run comes = (same_position counted_laws sound p is a b low_a low_b run, sym comes)
       empty (l ∷ ls) count run comes = absurd (omega arith)
 
   counts : (a b : ℕ) (l : Link) → Account no_link counted_sum one_link sound.told p k a b xs l → NextLink sound.told p k a b xs l
@@ -56,10 +56,10 @@ module _ (sound : SoundSheet) (p : Places) (is : IsPlaces sound.told p) (k : ℕ
 
   pub next_link : (a b : ℕ) → 0 < k → a < p.count → b < p.count → 0 < (at no_link xs a b).links
       → (l : Link) × NextLink sound.told p k a b xs l
-  next_link a b h low-a low-b some =
+  next_link a b h low_a low_b some =
       ⊎_elim (λ none. let e = ap (λ (x : Counted). x.links) none.1 in absurd (omega arith))
       (λ found. (found.0, counts a b found.0 found.1))
-      (accounted counted_laws sound p is k xs chart a b h low-a low-b)
+      (accounted counted_laws sound p is k xs chart a b h low_a low_b)
 
   -- a chart that stopped at position k: place 0 is processed, and the entry of k to itself has a link and an hour
   module _ (low : k < p.count) (beats : RanksUnder (at no_link xs k k) no_link → ⊥) where

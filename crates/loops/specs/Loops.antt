@@ -26,6 +26,6 @@ RestKept before after = drop 1024 after ≡ drop 1024 before
 -- The answer to a search for such a loop. One is found exactly if the sheet has no lawful timetable. Without one the
 -- buffer for codes stays as it was, and buffers that are too short are all left as they were.
 abbrev pub Searched : {E : Type 0} → RuleSheet → List E → List E → List ℕ → List ℕ → Sought → Type 0
-Searched s cells cells-after codes codes-after TooShort = ((length cells < 1024) ⊎ (length codes < 32)) × (cells-after ≡ cells) × (codes-after ≡ codes)
-Searched s cells cells-after codes codes-after NoLoop = ∥ ((t : Timetable) × Lawful s t) ∥₁ × RestKept cells cells-after × (codes-after ≡ codes)
-Searched s cells cells-after codes codes-after (Found count) = RestKept cells cells-after × LoopWritten s codes codes-after count
+Searched s cells cells_after codes codes_after TooShort = ((length cells < 1024) ⊎ (length codes < 32)) × (cells_after ≡ cells) × (codes_after ≡ codes)
+Searched s cells cells_after codes codes_after NoLoop = ∥ ((t : Timetable) × Lawful s t) ∥₁ × RestKept cells cells_after × (codes_after ≡ codes)
+Searched s cells cells_after codes codes_after (Found count) = RestKept cells cells_after × LoopWritten s codes codes_after count

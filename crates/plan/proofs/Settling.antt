@@ -9,16 +9,16 @@ use Rattle.sheet.specs.Sheets.{RuleSheet}
 use Rattle.sheet.specs.Timetables.{Lawful}
 use Rattle.vessels.proofs.Outcomes.{outcome_only}
 use Rattle.vessels.specs.Refusals.{told}
-use Rattle.vessels.specs.Replies.{reply, left_in, Settled as Shared-out}
+use Rattle.vessels.specs.Replies.{reply, left_in, Settled as SharedOut}
 use Rattle.vessels.specs.Vessels.{at, Outcome, all, missing, AllNumbered, GivesOut}
 use Rattle.vessels.specs.declared.placed.Placed.{Placed}
 use Rattle.vessels.specs.declared.refusals.Refusal.{Refusal}
 use Rattle.vessels.specs.declared.refusals.Refusal.TheVariants.{TooShort as Short, NoVessel as Lacks}
 use Rattle.waits.specs.Charts.{Charted}
 use Rattle.waits.specs.declared.ChartRefusal.{ChartRefusal}
-use Rattle.waits.specs.declared.ChartRefusal.TheVariants.{TooShort as No-room, NoTimetable as No-timetable}
+use Rattle.waits.specs.declared.ChartRefusal.TheVariants.{TooShort as NoRoom, NoTimetable as NothingLawful}
 use Rattle.brews.specs.Brews.{HeldOnce}
-use Rattle.windows.specs.Placing.{Filled, starts as starts-of}
+use Rattle.windows.specs.Placing.{Filled, starts as starts_of}
 use Rattle.windows.proofs.Course.{filled_unique}
 
 pub starts_written : (placed : List Placed) (old new : List ℕ) → length placed ≡ 31 → 31 ≤ length new → ((i : ℕ) → i < 31 → get_or new i 0 ≡ (at placed i).start) → drop 31 new ≡ drop 31 old → new ≡ start_hours placed ++ drop 31 old
@@ -42,7 +42,7 @@ settled s rule stock placed outcome filled gives = record {
 }
 
 module _ (s : RuleSheet) (rule : HourRule) (stock : List ℕ) (placed : List Placed) (filled : Filled s rule placed) (starts starts_after vessels vessels_after : List ℕ) where
-  pub wrote_all : Lawful s (starts-of placed) → ((numbers : List ℕ) → AllNumbered s.period stock placed numbers → HeldOnce s.period placed numbers) → Shared-out s.period stock placed vessels None vessels_after → starts_after ≡ start_hours placed ++ drop 31 starts → Written s rule stock starts starts_after vessels vessels_after
+  pub wrote_all : Lawful s (starts_of placed) → ((numbers : List ℕ) → AllNumbered s.period stock placed numbers → HeldOnce s.period placed numbers) → SharedOut s.period stock placed vessels None vessels_after → starts_after ≡ start_hours placed ++ drop 31 starts → Written s rule stock starts starts_after vessels vessels_after
   wrote_all lawful once gave written = by gave.outcome gave.by_rule gave.answers gave.leaves
     where
       by : (outcome : Outcome) → GivesOut s.period stock placed outcome → None ≡ reply outcome → vessels_after ≡ left_in outcome vessels → Written s rule stock starts starts_after vessels vessels_after
@@ -57,7 +57,7 @@ module _ (s : RuleSheet) (rule : HourRule) (stock : List ℕ) (placed : List Pla
       }
       by (missing step) gives answers leaves = absurd (false≢true (ap is_some answers))
 
-  pub wrote_none : (refusal : Refusal) → Shared-out s.period stock placed vessels (told (Err refusal)) vessels_after → Wrote s rule stock starts starts vessels vessels_after (Err refusal)
+  pub wrote_none : (refusal : Refusal) → SharedOut s.period stock placed vessels (told (Err refusal)) vessels_after → Wrote s rule stock starts starts vessels vessels_after (Err refusal)
   wrote_none refusal gave = by refusal gave.outcome gave.by_rule gave.answers gave.leaves
     where
       step_of : Option (ℕ × Option ℕ) → ℕ
@@ -87,8 +87,8 @@ module _ (s : RuleSheet) (rule : HourRule) (stock : List ℕ) (before after : Bu
   pub no_plan_looped : (chart chart_after : List ℤ) → 1024 ≤ length chart → (refusal : ChartRefusal)
       → Charted s (record { hours = before.hours; counted = before.counted; chart = chart; codes = before.codes }) (record { hours = after.hours; counted = after.counted; chart = chart_after; codes = after.codes }) (Err refusal)
       → after.starts ≡ before.starts → after.vessels ≡ before.vessels → (r : PlanRefusal) → r ≡ of_chart refusal → Planned s rule stock before after (Err r)
-  no_plan_looped chart chart_after long No-room charted starts vessels r is =
+  no_plan_looped chart chart_after long NoRoom charted starts vessels r is =
       absurd (charted.0 (record { hours = room.hours; counted = room.counted; chart = long; codes = room.codes }))
-  no_plan_looped chart chart_after long (No-timetable count) charted starts vessels r is =
+  no_plan_looped chart chart_after long (NothingLawful count) charted starts vessels r is =
       subst (λ (r : PlanRefusal). Planned s rule stock before after (Err r)) (sym is)
       (record { room = room; counts = counts; none = charted.none; loop = charted.loop; hours = charted.hours; counted = charted.counted; starts = starts; vessels = vessels })

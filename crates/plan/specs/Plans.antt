@@ -13,9 +13,9 @@ use Rattle.vessels.specs.declared.placed.Placed.{Placed}
 use Rattle.vessels.specs.declared.refusals.Refusal.{Refusal}
 use Rattle.vessels.specs.declared.refusals.Refusal.TheVariants.{TooShort as Short, NoVessel as Lacks}
 use Rattle.waits.specs.declared.ChartRefusal.{ChartRefusal}
-use Rattle.waits.specs.declared.ChartRefusal.TheVariants.{TooShort as No-room, NoTimetable as No-timetable}
+use Rattle.waits.specs.declared.ChartRefusal.TheVariants.{TooShort as NoRoom, NoTimetable as NothingLawful}
 use Rattle.brews.specs.Brews.{HeldOnce}
-use Rattle.windows.specs.Placing.{Filled, starts as starts-of}
+use Rattle.windows.specs.Placing.{Filled, starts as starts_of}
 
 -- The number of each refusal.
 abbrev pub plan_number : PlanRefusal → ℕ
@@ -51,7 +51,7 @@ pub record Written (s : RuleSheet) (rule : HourRule) (stock : List ℕ) (starts 
   pub placed : List Placed
   pub numbers : List ℕ
   pub settled : Settled s rule stock placed (all numbers)
-  pub lawful : Lawful s (starts-of placed)
+  pub lawful : Lawful s (starts_of placed)
   pub once : HeldOnce s.period placed numbers
   pub starts_written : starts_after ≡ start_hours placed ++ drop 31 starts
   pub vessels_written : vessels_after ≡ numbers ++ drop 31 vessels
@@ -71,8 +71,8 @@ Wrote s rule stock starts starts_after vessels vessels_after (Err (Lacks step)) 
 
 -- What a plan makes of a refusal of the wait chart or of the vessels.
 abbrev pub of_chart : ChartRefusal → PlanRefusal
-of_chart No-room = TooShort
-of_chart (No-timetable count) = NoTimetable count
+of_chart NoRoom = TooShort
+of_chart (NothingLawful count) = NoTimetable count
 
 abbrev pub of_vessels : Refusal → PlanRefusal
 of_vessels Short = TooShort

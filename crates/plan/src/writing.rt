@@ -6,7 +6,7 @@ ghost use Rattle.vessels.specs.Refusals.{told};
 ghost use Rattle.vessels.specs.Replies.{Gave};
 ghost use Rattle.vessels.specs.Vessels.{at};
 ghost use Rattle.sheet.specs.Timetables.{Lawful};
-ghost use Rattle.windows.specs.Placing.{Filled, starts as starts-of};
+ghost use Rattle.windows.specs.Placing.{Filled, starts as starts_of};
 
 use sheet::Source;
 use vessels::{Placed, Refusal, give_out};
@@ -59,7 +59,7 @@ pub(crate) fn write_plan<S: Source>(
     vessels: &mut [u8],
 ) -> Result<(), Refusal>
     requires { (31 ≤ length starts.old) × (31 ≤ length vessels.old) }
-    ensures { (rule : HourRule) → Filled (S.Source.sheet source.now).told rule placed.now → Lawful (S.Source.sheet source.now).told (starts-of placed.now) → Wrote (S.Source.sheet source.now).told rule stock.now starts.old starts.new vessels.old vessels.new result }
+    ensures { (rule : HourRule) → Filled (S.Source.sheet source.now).told rule placed.now → Lawful (S.Source.sheet source.now).told (starts_of placed.now) → Wrote (S.Source.sheet source.now).told rule stock.now starts.old starts.new vessels.old vessels.new result }
 {
     match give_vessels(source, stock, placed, vessels) {
         Ok(()) => {

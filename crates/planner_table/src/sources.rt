@@ -54,14 +54,14 @@ fn tells_as_worked_out<S: Source>(rt: &impl Abort, source: &S) {
         told(&OtherPeriod {
             below: source,
             period: 31,
-        },),
+        }),
         (30, 26, -21)
     );
     assert_eq!(rt;
         told(&OtherPeriod {
             below: source,
             period: 29,
-        },),
+        }),
         (30, 0, 14)
     );
     // step 3 starts by hour 56, and step 2 not before hour 6; step 2 takes 20 hours of each period
@@ -69,7 +69,7 @@ fn tells_as_worked_out<S: Source>(rt: &impl Abort, source: &S) {
         told(&LeftOut {
             below: source,
             number: 4,
-        },),
+        }),
         (20, 26, -50)
     );
 }

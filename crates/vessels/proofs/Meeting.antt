@@ -63,7 +63,7 @@ meets_in period a b hours k m c below comes longer one other =
 
 -- neither start's class comes up while the other step runs
 pub shares_not : (period : ℕ) (a b : Placed) (there back : ℕ) → there < period → back < period → Until period a b there → Until period b a back → a.duration ≤ there → b.duration ≤ back → Shares period a b → ⊥
-shares_not period a b there back t s comes returns long other-long both =
+shares_not period a b there back t s comes returns long other_long both =
     let one = both.by_one in
     let two = both.by_other in
     ⊎_elim
