@@ -1,26 +1,20 @@
 // Whether a full sheet keeps every limit.
-ghost use Rattle.std.specs.Prelude.{◌≡◌, ℕ, ◌<◌, length, None, Decides, slice_index};
+ghost use Rattle.std.specs.Prelude.{◌≡◌, ℕ, ◌<◌, ◌↔◌, length, None, IsTrue, slice_index};
 ghost use Rattle.sheet.specs.declared.forms.Rule.TheVariants.{Free};
 ghost use Rattle.sheet.specs.Limits.{From, FullSound};
-ghost use Rattle.sheet.specs.Sheets.{has_step, rule_sheet};
 ghost use Rattle.checked.specs.Kept.{StepKept, RuleKept, CountKept, EachOf, TellsWhether};
 
 use sheet::{Rule, Sheet, Step};
 
 fn name_fits(name: &[u8; 8]) -> bool
-    ensures fits { Decides result ((k : ℕ) → k < 8 → From 0x20 0x7E (slice_index name.now k)) }
-    ensures len { length name.now ≡ 8 }
+    ensures fits { IsTrue result ↔ ((k : ℕ) → k < 8 → From 0x20 0x7E (slice_index name.now k)) }
+    ensures long { length name.now ≡ 8 }
 {
-    for byte in name {
-        if *byte < 0x20 || *byte > 0x7E {
-            return false;
-        }
-    }
-    true
+    name.iter().all(|byte| matches!(byte, 0x20..=0x7E))
 }
 
 fn step_fits(step: Option<Step>) -> bool
-    ensures { Decides result (StepKept step) }
+    ensures { IsTrue result ↔ StepKept step }
 {
     match step {
         Some(step) => {
@@ -30,59 +24,38 @@ fn step_fits(step: Option<Step>) -> bool
     }
 }
 
-fn has_step(sheet: &Sheet, number: u8) -> bool
-    ensures { result ≡ has_step (rule_sheet sheet.now) number }
-{
-    sheet.step(number).is_some()
-}
-
 fn rule_fits(sheet: &Sheet, rule: Rule) -> bool
-    ensures { Decides result (RuleKept sheet.now rule) }
+    ensures { IsTrue result ↔ RuleKept sheet.now rule }
 {
     match rule {
         Rule::Free => true,
         Rule::After { u, v, gap, carry } => {
-            has_step(sheet, u) && has_step(sheet, v) && gap <= 999 && carry <= 7
+            sheet.has_step(u) && sheet.has_step(v) && gap <= 999 && carry <= 7
         }
-        Rule::Within { u, v, hours } => { has_step(sheet, u) && has_step(sheet, v) && hours <= 999 }
-        Rule::At { v, hour } => has_step(sheet, v) && hour <= 1999,
+        Rule::Within { u, v, hours } => { sheet.has_step(u) && sheet.has_step(v) && hours <= 999 }
+        Rule::At { v, hour } => sheet.has_step(v) && hour <= 1999,
     }
 }
 
 fn steps_fit(table: &[Option<Step>; 31]) -> bool
-    ensures fits { Decides result (EachOf 31 None StepKept table.now) }
-    ensures len { length table.now ≡ 31 }
+    ensures fits { IsTrue result ↔ EachOf 31 None StepKept table.now }
+    ensures long { length table.now ≡ 31 }
 {
-    for step in table {
-        if !step_fits(*step) {
-            return false;
-        }
-    }
-    true
+    table.iter().all(|step| step_fits(*step))
 }
 
 fn rules_fit(sheet: &Sheet, table: &[Rule; 96]) -> bool
-    ensures fits { Decides result (EachOf 96 Free (RuleKept sheet.now) table.now) }
-    ensures len { length table.now ≡ 96 }
+    ensures fits { IsTrue result ↔ EachOf 96 Free (RuleKept sheet.now) table.now }
+    ensures long { length table.now ≡ 96 }
 {
-    for rule in table {
-        if !rule_fits(sheet, *rule) {
-            return false;
-        }
-    }
-    true
+    table.iter().all(|rule| rule_fits(sheet, *rule))
 }
 
 fn counts_fit(stock: &[u8; 8]) -> bool
-    ensures fits { Decides result (EachOf 8 0 CountKept stock.now) }
-    ensures len { length stock.now ≡ 8 }
+    ensures fits { IsTrue result ↔ EachOf 8 0 CountKept stock.now }
+    ensures long { length stock.now ≡ 8 }
 {
-    for count in stock {
-        if *count > 16 {
-            return false;
-        }
-    }
-    true
+    stock.iter().all(|count| *count <= 16)
 }
 
 pub fn is_sound(sheet: &Sheet) -> bool

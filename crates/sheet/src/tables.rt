@@ -1,33 +1,18 @@
 // Reading and changing a full sheet.
 ghost use Rattle.std.specs.Prelude.{◌≡◌, length, is_some, Some, None};
 ghost use Rattle.sheet.specs.declared.forms.Rule.TheVariants.{Free};
-ghost use Rattle.sheet.specs.Sheets.{numbered};
+ghost use Rattle.sheet.specs.Sheets.{numbered, has_step, rule_sheet};
 ghost use Rattle.sheet.specs.Edits.{KeptAt, empty_sheet, with_step, with_duration, with_rule};
 
 use super::forms::{Rule, Sheet, Step};
 
-// Where the step table keeps a step, counted from 0.
-fn step_slot(table: &[Option<Step>; 31], number: u8) -> Option<usize>
+// Where a table keeps an entry, counted from 0. The entries are numbered from 1.
+fn slot<T, const N: usize>(table: &[T; N], number: u8) -> Option<usize>
     ensures at { KeptAt table.now number result }
-    ensures len { length table.now ≡ 31 }
+    ensures long { length table.now ≡ N }
 {
-    if number == 0 || number > 31 {
-        None
-    } else {
-        Some(number as usize - 1)
-    }
-}
-
-// Where the rule table keeps a rule, counted from 0.
-fn rule_slot(table: &[Rule; 96], number: u8) -> Option<usize>
-    ensures at { KeptAt table.now number result }
-    ensures len { length table.now ≡ 96 }
-{
-    if number == 0 || number > 96 {
-        None
-    } else {
-        Some(number as usize - 1)
-    }
+    let before = (number as usize).checked_sub(1)?;
+    if before < N { Some(before) } else { None }
 }
 
 impl Sheet {
@@ -46,16 +31,21 @@ impl Sheet {
     pub fn step(&self, number: u8) -> Option<Step>
         ensures { result ≡ numbered None self.now.steps number }
     {
-        match step_slot(&self.steps, number) {
-            Some(i) => self.steps[i],
-            None => None,
-        }
+        let i = slot(&self.steps, number)?;
+        self.steps[i]
+    }
+
+    pub fn has_step(&self, number: u8) -> bool
+        ensures there { result ≡ is_some (numbered None self.now.steps number) }
+        ensures told { result ≡ has_step (rule_sheet self.now) number }
+    {
+        self.step(number).is_some()
     }
 
     pub fn rule(&self, number: u8) -> Rule
         ensures { result ≡ numbered Free self.now.rules number }
     {
-        match rule_slot(&self.rules, number) {
+        match slot(&self.rules, number) {
             Some(i) => self.rules[i],
             None => Rule::Free,
         }
@@ -65,7 +55,7 @@ impl Sheet {
     pub fn set_step(&mut self, number: u8, step: Option<Step>)
         ensures { self.new ≡ with_step self.old number step }
     {
-        if let Some(i) = step_slot(&self.steps, number) {
+        if let Some(i) = slot(&self.steps, number) {
             self.steps[i] = step;
         }
     }
@@ -75,7 +65,7 @@ impl Sheet {
         ensures after { self.new ≡ with_duration self.old number duration }
         ensures value { result ≡ is_some (numbered None self.old.steps number) }
     {
-        let Some(i) = step_slot(&self.steps, number) else {
+        let Some(i) = slot(&self.steps, number) else {
             return false;
         };
         match &mut self.steps[i] {
@@ -91,7 +81,7 @@ impl Sheet {
     pub fn set_rule(&mut self, number: u8, rule: Rule)
         ensures { self.new ≡ with_rule self.old number rule }
     {
-        if let Some(i) = rule_slot(&self.rules, number) {
+        if let Some(i) = slot(&self.rules, number) {
             self.rules[i] = rule;
         }
     }

@@ -22,13 +22,6 @@ impl CheckedSheet {
     }
 }
 
-// A step's record, from which a source tells all but the name.
-fn record_at(sheet: &Sheet, number: u8) -> Option<Step>
-    ensures { option_map without_name result ≡ step_at (rule_sheet sheet.now) number }
-{
-    sheet.step(number)
-}
-
 impl Source for CheckedSheet {
     ghost sheet = { λ x. told_by x.sheet x.sound };
 
@@ -41,10 +34,8 @@ impl Source for CheckedSheet {
     }
 
     fn step(&self, number: u8) -> Option<(u16, u8)> {
-        match record_at(&self.sheet, number) {
-            Some(step) => Some((step.duration, step.kind)),
-            None => None,
-        }
+        let step = self.sheet.step(number)?;
+        Some((step.duration, step.kind))
     }
 
     fn rule(&self, number: u8) -> Rule {

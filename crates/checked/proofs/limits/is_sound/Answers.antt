@@ -19,8 +19,8 @@ pub returns : goal.returns
 returns c = (
   λ e.
       ∣ full_sound c.args.sheet.now (omega arith, omega arith) (omega arith, omega arith)
-      c.steps_fit.ensures.len (c.steps_fit.ensures.fits.0 c.if-not-steps_fit.false)
-      c.rules_fit.ensures.len (c.rules_fit.ensures.fits.0 c.if-not-rules_fit.false)
-      c.counts_fit.ensures.len (c.counts_fit.ensures.fits.0 e) ∣₁,
+      c.steps_fit.ensures.long (c.steps_fit.ensures.fits.0 c.if-not-steps_fit.false)
+      c.rules_fit.ensures.long (c.rules_fit.ensures.fits.0 c.if-not-rules_fit.false)
+      c.counts_fit.ensures.long (c.counts_fit.ensures.fits.0 e) ∣₁,
   λ ok. c.counts_fit.ensures.fits.1 (counts_kept c.args.sheet.now ok),
 )
