@@ -1,5 +1,6 @@
 -- What can be wrong with a command on a sheet, apart from leaving it without a lawful timetable. Assumes nothing.
 use Rattle.std.specs.Prelude.{ℕ, ◌<◌, Bool, true, false, cond, not, ◌||◌, List, [], ◌∷◌, map, Some, None, Option, ◌==◌, nat_le}
+use Rattle.std.specs.List.{list_any}
 use Rattle.book.specs.Commands.{Instruction, add_step, remove_step, set_duration, put_after, put_within, put_at, remove_rule, set_period, set_span, set_vessels}
 use Rattle.changes.specs.Tests.{from, name_fits, has}
 use Rattle.changes.specs.declared.faults.CommandFault.{CommandFault}
@@ -49,8 +50,7 @@ names n (At v hour) = v == n
 
 -- whether any rule of a table does
 abbrev pub named : ℕ → List Rule → Bool
-named n [] = false
-named n (rule ∷ rules) = names n rule || named n rules
+named n rules = list_any (names n) rules
 
 -- a fault, and whether a command has it
 abbrev pub Check : Type 0

@@ -1,5 +1,6 @@
 -- Whether a command's values keep the limits of a sheet. Assumes nothing.
-use Rattle.std.specs.Prelude.{ℕ, Bool, true, false, ◌&&◌, List, [], ◌∷◌, length, ◌==◌, nat_le}
+use Rattle.std.specs.Prelude.{ℕ, Bool, false, ◌&&◌, List, length, ◌==◌, nat_le}
+use Rattle.std.specs.List.{list_all}
 use Rattle.book.specs.Commands.{Instruction, add_step, remove_step, set_duration, put_after, put_within, put_at, remove_rule, set_period, set_span, set_vessels}
 use Rattle.sheet.specs.Sheets.{has_step, rule_sheet}
 use Rattle.sheet.specs.declared.forms.Sheet.{Sheet}
@@ -10,8 +11,7 @@ from low high n = nat_le low n && nat_le n high
 
 -- every byte is a printable sign, from the space to the tilde
 abbrev pub printable : List ℕ → Bool
-printable [] = true
-printable (b ∷ bs) = from 0x20 0x7E b && printable bs
+printable bs = list_all (from 0x20 0x7E) bs
 
 -- a step's name: eight printable bytes
 abbrev pub name_fits : List ℕ → Bool

@@ -5,48 +5,34 @@ ghost use Rattle.changes.specs.Faults.{fault_number};
 #[derive(Clone, Copy, Debug, PartialEq, Eq)]
 pub enum CommandFault {
     // A step number outside 1 to 31.
-    StepNumber,
+    StepNumber = 1,
     // The step to be added is there already.
-    StepPresent,
+    StepPresent = 2,
     // Any other step that the command names is absent.
-    StepAbsent,
-    Duration,
-    Kind,
+    StepAbsent = 3,
+    Duration = 4,
+    Kind = 5,
     // A name that is not eight bytes long, or a byte of it outside 0x20 to 0x7E.
-    Name,
+    Name = 6,
     // A rule number outside 1 to 96.
-    RuleNumber,
+    RuleNumber = 7,
     // The rule number is not free.
-    RuleTaken,
+    RuleTaken = 8,
     // The rule to be removed is not there.
-    RuleAbsent,
+    RuleAbsent = 9,
     // A gap, hours or an hour out of limits.
-    Hours,
-    Carry,
+    Hours = 10,
+    Carry = 11,
     // The period, the span or a count of vessels out of limits.
-    Amount,
+    Amount = 12,
     // The step to be removed is named by a rule.
-    StepNamed,
+    StepNamed = 13,
 }
 
 impl CommandFault {
     pub fn number(self) -> u8
         ensures { result ≡ fault_number self }
     {
-        match self {
-            CommandFault::StepNumber => 1,
-            CommandFault::StepPresent => 2,
-            CommandFault::StepAbsent => 3,
-            CommandFault::Duration => 4,
-            CommandFault::Kind => 5,
-            CommandFault::Name => 6,
-            CommandFault::RuleNumber => 7,
-            CommandFault::RuleTaken => 8,
-            CommandFault::RuleAbsent => 9,
-            CommandFault::Hours => 10,
-            CommandFault::Carry => 11,
-            CommandFault::Amount => 12,
-            CommandFault::StepNamed => 13,
-        }
+        self as u8
     }
 }

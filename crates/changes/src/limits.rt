@@ -18,12 +18,7 @@ fn is_sign(byte: u8) -> bool
 fn is_printable(bytes: &[u8]) -> bool
     ensures { result ≡ printable bytes.now }
 {
-    for b in bytes {
-        if !is_sign(*b) {
-            return false;
-        }
-    }
-    true
+    bytes.iter().all(|byte| is_sign(*byte))
 }
 
 // A step's name: eight printable bytes.
