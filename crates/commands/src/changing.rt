@@ -5,7 +5,7 @@ ghost use Rattle.changes.specs.Changes.{asked};
 ghost use Rattle.changes.specs.Faults.{first_fault};
 ghost use Rattle.commands.specs.Answers.{Changed};
 
-use super::judging::first_fault;
+use super::judging::judge;
 use book::Command;
 use changes::CommandFault;
 use sheet::{Rule, Sheet, Step};
@@ -79,9 +79,7 @@ fn apply(sheet: &mut Sheet, command: &Command)
 pub fn change(sheet: &mut Sheet, command: &Command) -> Result<(), CommandFault>
     ensures { Changed sheet.old (said command.now) sheet.new result }
 {
-    if let Some(fault) = first_fault(sheet, command) {
-        return Err(fault);
-    }
+    judge(sheet, command)?;
     apply(sheet, command);
     Ok(())
 }

@@ -3,11 +3,18 @@ ghost use Rattle.std.specs.Prelude.{◌≡◌, [], ◌∷◌};
 ghost use Rattle.changes.specs.declared.faults.CommandFault.TheVariants.{Amount};
 ghost use Rattle.book.specs.Commands.{said, add_step, remove_step, set_duration, put_after, put_within, put_at, remove_rule, set_vessels};
 ghost use Rattle.changes.specs.Faults.{outside, lacks, taken, names, named, first_of, first_fault};
-ghost use Rattle.changes.specs.Tests.{has};
+ghost use Rattle.commands.specs.Answers.{unless};
 
 use book::Command;
 use changes::{CommandFault, is_from, name_fits};
 use sheet::{Rule, Sheet};
+
+// One check: a fault, if it is there.
+fn check(is_there: bool, fault: CommandFault) -> Result<(), CommandFault>
+    ensures { result ≡ unless (first_of ((is_there, fault) ∷ [])) }
+{
+    if is_there { Err(fault) } else { Ok(()) }
+}
 
 fn is_outside(low: u16, high: u16, n: u16) -> bool
     ensures { result ≡ outside low high n }
@@ -27,25 +34,16 @@ fn no_rule_number(n: u8) -> bool
     is_outside(1, 96, n as u16)
 }
 
-fn has_step(sheet: &Sheet, number: u8) -> bool
-    ensures { result ≡ has sheet.now number }
-{
-    sheet.step(number).is_some()
-}
-
 fn lacks_step(sheet: &Sheet, number: u8) -> bool
     ensures { result ≡ lacks sheet.now number }
 {
-    !has_step(sheet, number)
+    !sheet.has_step(number)
 }
 
 fn is_taken(sheet: &Sheet, number: u8) -> bool
     ensures { result ≡ taken sheet.now number }
 {
-    match sheet.rule(number) {
-        Rule::Free => false,
-        _ => true,
-    }
+    !matches!(sheet.rule(number), Rule::Free)
 }
 
 fn names_step(rule: Rule, step: u8) -> bool
@@ -62,12 +60,7 @@ fn names_step(rule: Rule, step: u8) -> bool
 fn is_named(rules: &[Rule; 96], step: u8) -> bool
     ensures { result ≡ named step rules.now }
 {
-    for rule in rules {
-        if names_step(*rule, step) {
-            return true;
-        }
-    }
-    false
+    rules.iter().any(|rule| names_step(*rule, step))
 }
 
 fn judge_new_step(
@@ -76,158 +69,105 @@ fn judge_new_step(
     duration: u16,
     kind: u8,
     name: &[u8],
-) -> Option<CommandFault>
-    ensures { result ≡ first_fault sheet.now (add_step step duration kind name.now) }
+) -> Result<(), CommandFault>
+    ensures { result ≡ unless (first_fault sheet.now (add_step step duration kind name.now)) }
 {
-    if no_step_number(step) {
-        return Some(CommandFault::StepNumber);
-    }
-    if has_step(sheet, step) {
-        return Some(CommandFault::StepPresent);
-    }
-    if is_outside(1, 999, duration) {
-        return Some(CommandFault::Duration);
-    }
-    if kind > 7 {
-        return Some(CommandFault::Kind);
-    }
-    if !name_fits(name) {
-        return Some(CommandFault::Name);
-    }
-    None
+    check(no_step_number(step), CommandFault::StepNumber)?;
+    check(sheet.has_step(step), CommandFault::StepPresent)?;
+    check(is_outside(1, 999, duration), CommandFault::Duration)?;
+    check(kind > 7, CommandFault::Kind)?;
+    check(!name_fits(name), CommandFault::Name)
 }
 
-fn judge_removed_step(sheet: &Sheet, step: u8) -> Option<CommandFault>
-    ensures { result ≡ first_fault sheet.now (remove_step step) }
+fn judge_removed_step(sheet: &Sheet, step: u8) -> Result<(), CommandFault>
+    ensures { result ≡ unless (first_fault sheet.now (remove_step step)) }
 {
-    if no_step_number(step) {
-        return Some(CommandFault::StepNumber);
-    }
-    if lacks_step(sheet, step) {
-        return Some(CommandFault::StepAbsent);
-    }
-    if is_named(&sheet.rules, step) {
-        return Some(CommandFault::StepNamed);
-    }
-    None
+    check(no_step_number(step), CommandFault::StepNumber)?;
+    check(lacks_step(sheet, step), CommandFault::StepAbsent)?;
+    check(is_named(&sheet.rules, step), CommandFault::StepNamed)
 }
 
-fn judge_duration(sheet: &Sheet, step: u8, duration: u16) -> Option<CommandFault>
-    ensures { result ≡ first_fault sheet.now (set_duration step duration) }
+fn judge_duration(sheet: &Sheet, step: u8, duration: u16) -> Result<(), CommandFault>
+    ensures { result ≡ unless (first_fault sheet.now (set_duration step duration)) }
 {
-    if no_step_number(step) {
-        return Some(CommandFault::StepNumber);
-    }
-    if lacks_step(sheet, step) {
-        return Some(CommandFault::StepAbsent);
-    }
-    if is_outside(1, 999, duration) {
-        return Some(CommandFault::Duration);
-    }
-    None
+    check(no_step_number(step), CommandFault::StepNumber)?;
+    check(lacks_step(sheet, step), CommandFault::StepAbsent)?;
+    check(is_outside(1, 999, duration), CommandFault::Duration)
 }
 
-fn judge_after(sheet: &Sheet, rule: u8, u: u8, v: u8, gap: u16, carry: u8) -> Option<CommandFault>
-    ensures { result ≡ first_fault sheet.now (put_after rule u v gap carry) }
+fn judge_after(
+    sheet: &Sheet,
+    rule: u8,
+    u: u8,
+    v: u8,
+    gap: u16,
+    carry: u8,
+) -> Result<(), CommandFault>
+    ensures { result ≡ unless (first_fault sheet.now (put_after rule u v gap carry)) }
 {
-    if no_step_number(u) || no_step_number(v) {
-        return Some(CommandFault::StepNumber);
-    }
-    if lacks_step(sheet, u) || lacks_step(sheet, v) {
-        return Some(CommandFault::StepAbsent);
-    }
-    if no_rule_number(rule) {
-        return Some(CommandFault::RuleNumber);
-    }
-    if is_taken(sheet, rule) {
-        return Some(CommandFault::RuleTaken);
-    }
-    if gap > 999 {
-        return Some(CommandFault::Hours);
-    }
-    if carry > 7 {
-        return Some(CommandFault::Carry);
-    }
-    None
+    check(
+        no_step_number(u) || no_step_number(v),
+        CommandFault::StepNumber,
+    )?;
+    check(
+        lacks_step(sheet, u) || lacks_step(sheet, v),
+        CommandFault::StepAbsent,
+    )?;
+    check(no_rule_number(rule), CommandFault::RuleNumber)?;
+    check(is_taken(sheet, rule), CommandFault::RuleTaken)?;
+    check(gap > 999, CommandFault::Hours)?;
+    check(carry > 7, CommandFault::Carry)
 }
 
-fn judge_within(sheet: &Sheet, rule: u8, u: u8, v: u8, hours: u16) -> Option<CommandFault>
-    ensures { result ≡ first_fault sheet.now (put_within rule u v hours) }
+fn judge_within(sheet: &Sheet, rule: u8, u: u8, v: u8, hours: u16) -> Result<(), CommandFault>
+    ensures { result ≡ unless (first_fault sheet.now (put_within rule u v hours)) }
 {
-    if no_step_number(u) || no_step_number(v) {
-        return Some(CommandFault::StepNumber);
-    }
-    if lacks_step(sheet, u) || lacks_step(sheet, v) {
-        return Some(CommandFault::StepAbsent);
-    }
-    if no_rule_number(rule) {
-        return Some(CommandFault::RuleNumber);
-    }
-    if is_taken(sheet, rule) {
-        return Some(CommandFault::RuleTaken);
-    }
-    if hours > 999 {
-        return Some(CommandFault::Hours);
-    }
-    None
+    check(
+        no_step_number(u) || no_step_number(v),
+        CommandFault::StepNumber,
+    )?;
+    check(
+        lacks_step(sheet, u) || lacks_step(sheet, v),
+        CommandFault::StepAbsent,
+    )?;
+    check(no_rule_number(rule), CommandFault::RuleNumber)?;
+    check(is_taken(sheet, rule), CommandFault::RuleTaken)?;
+    check(hours > 999, CommandFault::Hours)
 }
 
-fn judge_at(sheet: &Sheet, rule: u8, v: u8, hour: u16) -> Option<CommandFault>
-    ensures { result ≡ first_fault sheet.now (put_at rule v hour) }
+fn judge_at(sheet: &Sheet, rule: u8, v: u8, hour: u16) -> Result<(), CommandFault>
+    ensures { result ≡ unless (first_fault sheet.now (put_at rule v hour)) }
 {
-    if no_step_number(v) {
-        return Some(CommandFault::StepNumber);
-    }
-    if lacks_step(sheet, v) {
-        return Some(CommandFault::StepAbsent);
-    }
-    if no_rule_number(rule) {
-        return Some(CommandFault::RuleNumber);
-    }
-    if is_taken(sheet, rule) {
-        return Some(CommandFault::RuleTaken);
-    }
-    if hour > 1999 {
-        return Some(CommandFault::Hours);
-    }
-    None
+    check(no_step_number(v), CommandFault::StepNumber)?;
+    check(lacks_step(sheet, v), CommandFault::StepAbsent)?;
+    check(no_rule_number(rule), CommandFault::RuleNumber)?;
+    check(is_taken(sheet, rule), CommandFault::RuleTaken)?;
+    check(hour > 1999, CommandFault::Hours)
 }
 
-fn judge_removed_rule(sheet: &Sheet, rule: u8) -> Option<CommandFault>
-    ensures { result ≡ first_fault sheet.now (remove_rule rule) }
+fn judge_removed_rule(sheet: &Sheet, rule: u8) -> Result<(), CommandFault>
+    ensures { result ≡ unless (first_fault sheet.now (remove_rule rule)) }
 {
-    if no_rule_number(rule) {
-        return Some(CommandFault::RuleNumber);
-    }
-    if !is_taken(sheet, rule) {
-        return Some(CommandFault::RuleAbsent);
-    }
-    None
+    check(no_rule_number(rule), CommandFault::RuleNumber)?;
+    check(!is_taken(sheet, rule), CommandFault::RuleAbsent)
 }
 
-fn judge_vessels(sheet: &Sheet, kind: u8, count: u8) -> Option<CommandFault>
-    ensures { result ≡ first_fault sheet.now (set_vessels kind count) }
+fn judge_vessels(sheet: &Sheet, kind: u8, count: u8) -> Result<(), CommandFault>
+    ensures { result ≡ unless (first_fault sheet.now (set_vessels kind count)) }
 {
-    if kind > 7 {
-        return Some(CommandFault::Kind);
-    }
-    if count > 16 {
-        return Some(CommandFault::Amount);
-    }
-    None
+    check(kind > 7, CommandFault::Kind)?;
+    check(count > 16, CommandFault::Amount)
 }
 
-fn judge_amount(limit: u16, amount: u16) -> Option<CommandFault>
-    ensures { result ≡ first_of ((outside 1 limit amount, Amount) ∷ []) }
+fn judge_amount(limit: u16, amount: u16) -> Result<(), CommandFault>
+    ensures { result ≡ unless (first_of ((outside 1 limit amount, Amount) ∷ [])) }
 {
-    if is_outside(1, limit, amount) {
-        return Some(CommandFault::Amount);
-    }
-    None
+    check(is_outside(1, limit, amount), CommandFault::Amount)
 }
 
-pub fn first_fault(sheet: &Sheet, command: &Command) -> Option<CommandFault>
-    ensures { result ≡ first_fault sheet.now (said command.now) }
+// Tells the command's first fault on the sheet, if it has one besides leaving no lawful timetable.
+pub fn judge(sheet: &Sheet, command: &Command) -> Result<(), CommandFault>
+    ensures { result ≡ unless (first_fault sheet.now (said command.now)) }
 {
     match *command {
         Command::AddStep {

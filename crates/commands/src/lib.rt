@@ -5,4 +5,4 @@ mod changing;
 mod judging;
 
 pub use changing::change;
-pub use judging::first_fault;
+pub use judging::judge;
