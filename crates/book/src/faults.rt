@@ -4,20 +4,16 @@ ghost use Rattle.book.specs.Numbers.{number};
 // Why a book cannot be read on, or not at all.
 #[derive(Clone, Copy, Debug, PartialEq, Eq)]
 pub enum Cause {
-    UnknownByte,
-    CutOff,
-    TooLong,
+    UnknownByte = 20,
+    CutOff = 21,
+    TooLong = 24,
 }
 
 impl Cause {
     pub fn number(self) -> u8
         ensures { result ≡ number self }
     {
-        match self {
-            Cause::UnknownByte => 20,
-            Cause::CutOff => 21,
-            Cause::TooLong => 24,
-        }
+        self as u8
     }
 }
 

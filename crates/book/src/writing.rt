@@ -8,19 +8,16 @@ use crate::commands::Command;
 #[derive(Clone, Copy, Debug, PartialEq, Eq)]
 pub enum Unwritten {
     // The name of a command made by hand is not eight bytes long, so that the format has no place for it.
-    NameLength,
+    NameLength = 6,
     // The buffer ends before the command would.
-    TooShort,
+    TooShort = 30,
 }
 
 impl Unwritten {
     pub fn number(self) -> u8
         ensures { result ≡ unwritten_number self }
     {
-        match self {
-            Unwritten::NameLength => 6,
-            Unwritten::TooShort => 30,
-        }
+        self as u8
     }
 }
 
