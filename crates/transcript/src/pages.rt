@@ -5,58 +5,57 @@ ghost use Rattle.book.specs.Walks.{Walkable};
 ghost use Rattle.transcript.specs.Listings.{heading, Continued, Extended, Listing, OneListing};
 ghost use Rattle.transcript.specs.Sentences.{sentence, line_of, line};
 
-use crate::sentences::{fault_words, sentence_of};
+use crate::sentences::{Ended, Sentence};
 use book::{Entry, Fault, Reader};
 use std::alloc::{AllocError, Global};
 
-// Adds a line to the text: the offset, then the words.
-fn add_line(heap: Global, text: &mut String, offset: usize, words: &str) -> Result<(), AllocError>
-    ensures { OnOk result (string_bytes text.new ≡ string_bytes text.old ++ line_of offset words.now) }
+fn add_entry(text: &mut String, entry: Entry) -> Result<(), AllocError>
+    ensures { OnOk result (
+        string_bytes text.new ≡ string_bytes text.old
+        ++ line_of entry.entry.offset (sentence (said entry.entry.command))) }
 {
-    let line = format!(in heap; "{offset}: {words}\n")?;
-    text.push_str(line.as_str())
+    let offset = entry.offset;
+    let words = Sentence(entry.command);
+    write!(text, "{offset}: {words}\n")
 }
 
-fn add_entry(heap: Global, text: &mut String, entry: Entry) -> Result<(), AllocError>
-    ensures { OnOk result (string_bytes text.new ≡ string_bytes text.old ++ line_of entry.entry.offset (sentence (said entry.entry.command))) }
-{
-    let words = sentence_of(heap, &entry.command)?;
-    add_line(heap, text, entry.offset, words.as_str())
-}
-
-fn add_fault(heap: Global, text: &mut String, fault: Fault) -> Result<(), AllocError>
+fn add_fault(text: &mut String, fault: Fault) -> Result<(), AllocError>
     ensures { OnOk result (string_bytes text.new ≡ string_bytes text.old ++ line (Err fault)) }
 {
-    let words = fault_words(heap, fault.cause)?;
-    add_line(heap, text, fault.offset, words.as_str())
+    let offset = fault.offset;
+    let words = Ended(fault.cause);
+    write!(text, "{offset}: {words}\n")
 }
 
-fn add_item(heap: Global, text: &mut String, item: Result<Entry, Fault>) -> Result<(), AllocError>
-    ensures { OnOk result (string_bytes text.new ≡ string_bytes text.old ++ line (item_of item.entry)) }
+fn add_item(text: &mut String, item: Result<Entry, Fault>) -> Result<(), AllocError>
+    ensures { OnOk result (
+        string_bytes text.new ≡ string_bytes text.old ++ line (item_of item.entry)) }
 {
     match item {
-        Ok(entry) => add_entry(heap, text, entry),
-        Err(fault) => add_fault(heap, text, fault),
+        Ok(entry) => add_entry(text, entry),
+        Err(fault) => add_fault(text, fault),
     }
 }
 
 // Adds a line for each item from the reader's place on.
-fn add_items(heap: Global, text: &mut String, reader: &mut Reader) -> Result<(), AllocError>
-    ensures { OnOk result (Continued (string_bytes text.old) (book_of reader.old) (place_of reader.old) (string_bytes text.new)) }
+fn add_items(text: &mut String, reader: &mut Reader) -> Result<(), AllocError>
+    ensures { OnOk result (
+        Continued (string_bytes text.old) (book_of reader.old) (place_of reader.old)
+        (string_bytes text.new)) }
 {
     while let Some(item) = reader.read_next() {
-        add_item(heap, text, item)?;
+        add_item(text, item)?;
     }
     Ok(())
 }
 
 // Adds the lines of a whole book to the text.
-fn add_book(heap: Global, text: &mut String, book: &[u8]) -> Result<(), AllocError>
+fn add_book(text: &mut String, book: &[u8]) -> Result<(), AllocError>
     ensures { OnOk result (Extended (string_bytes text.old) book.now (string_bytes text.new)) }
 {
     match Reader::new(book) {
-        Ok(mut reader) => add_items(heap, text, &mut reader),
-        Err(fault) => add_fault(heap, text, fault),
+        Ok(mut reader) => add_items(text, &mut reader),
+        Err(fault) => add_fault(text, fault),
     }
 }
 
@@ -66,7 +65,7 @@ fn book_text(heap: Global, title: &str, book: &[u8]) -> Result<String, AllocErro
 {
     let size = book.len();
     let mut text = format!(in heap; "{title}, {size} bytes\n")?;
-    add_book(heap, &mut text, book)?;
+    add_book(&mut text, book)?;
     Ok(text)
 }
 

@@ -1,10 +1,11 @@
-ghost use Rattle.std.specs.Prelude.{◌≡◌, ◌<◌, map, IfOk, string_bytes};
+// Commands and faults as they are printed.
+ghost use Rattle.std.specs.Prelude.{◌≡◌, ◌<◌, map, Some};
 ghost use Rattle.book.specs.Commands.{said};
 ghost use Rattle.book.specs.Numbers.{number};
 ghost use Rattle.transcript.specs.Sentences.{shown, sentence, reason, fault_told};
 
 use book::{Cause, Command};
-use std::alloc::{AllocError, Global};
+use std::fmt;
 
 // A byte of a name as it can be shown.
 fn shown_byte(b: u8) -> char
@@ -18,56 +19,69 @@ fn shown_byte(b: u8) -> char
     }
 }
 
-fn shown_name(heap: Global, name: &[u8]) -> Result<String, AllocError>
-    ensures { IfOk result (λ s. string_bytes s ≡ map shown name.now) }
-{
-    let mut text = String::new(heap);
-    for b in name {
-        text.push(shown_byte(*b))?;
+// A step's name, byte by byte.
+#[derive(Clone, Copy)]
+struct Name<'a>(&'a [u8]);
+
+impl fmt::Display for Name<'_> {
+    ghost output = { λ x. Some (map shown x.0.now) };
+
+    fn fmt<W: fmt::Write>(&self, f: &mut fmt::Formatter<W>) -> fmt::Result {
+        for b in self.0 {
+            f.write_char(shown_byte(*b))?;
+        }
+        Ok(())
     }
-    Ok(text)
 }
 
-pub fn sentence_of(heap: Global, command: &Command) -> Result<String, AllocError>
-    ensures { IfOk result (λ s. string_bytes s ≡ sentence (said command.now)) }
-{
-    match *command {
-        Command::AddStep {
-            step,
-            duration,
-            kind,
-            name,
-        } => {
-            let name = shown_name(heap, name)?;
-            format!(in heap; "add step {step} \"{name}\", {duration} hours, kind {kind}")
-        }
-        Command::RemoveStep { step } => format!(in heap; "remove step {step}"),
-        Command::SetDuration { step, duration } => format!(in heap;
-            "step {step} takes {duration} hours"
-        ),
-        Command::After {
-            rule,
-            u,
-            v,
-            gap,
-            carry,
-        } => {
-            format!(in heap;
+// A command in plain words.
+#[derive(Clone, Copy)]
+pub struct Sentence<'a>(pub Command<'a>);
+
+impl fmt::Display for Sentence<'_> {
+    ghost output = { λ x. Some (sentence (said x.0)) };
+
+    fn fmt<W: fmt::Write>(&self, f: &mut fmt::Formatter<W>) -> fmt::Result {
+        match self.0 {
+            Command::AddStep {
+                step,
+                duration,
+                kind,
+                name,
+            } => {
+                let name = Name(name);
+                write!(
+                    f,
+                    "add step {step} \"{name}\", {duration} hours, kind {kind}"
+                )
+            }
+            Command::RemoveStep { step } => write!(f, "remove step {step}"),
+            Command::SetDuration { step, duration } => {
+                write!(f, "step {step} takes {duration} hours")
+            }
+            Command::After {
+                rule,
+                u,
+                v,
+                gap,
+                carry,
+            } => write!(
+                f,
                 "rule {rule}: step {v}, {carry} brews on, starts at least {gap} hours after step {u} ends"
-            )
-        }
-        Command::Within { rule, u, v, hours } => {
-            format!(in heap;
+            ),
+            Command::Within { rule, u, v, hours } => write!(
+                f,
                 "rule {rule}: step {v} starts at most {hours} hours after step {u} starts"
-            )
+            ),
+            Command::At { rule, v, hour } => write!(
+                f,
+                "rule {rule}: step {v} starts at hour {hour}"
+            ),
+            Command::RemoveRule { rule } => write!(f, "remove rule {rule}"),
+            Command::SetPeriod { period } => write!(f, "a brew starts every {period} hours"),
+            Command::SetSpan { span } => write!(f, "a brew ends within {span} hours"),
+            Command::SetVessels { kind, count } => write!(f, "{count} vessels of kind {kind}"),
         }
-        Command::At { rule, v, hour } => format!(in heap;
-            "rule {rule}: step {v} starts at hour {hour}"
-        ),
-        Command::RemoveRule { rule } => format!(in heap; "remove rule {rule}"),
-        Command::SetPeriod { period } => format!(in heap; "a brew starts every {period} hours"),
-        Command::SetSpan { span } => format!(in heap; "a brew ends within {span} hours"),
-        Command::SetVessels { kind, count } => format!(in heap; "{count} vessels of kind {kind}"),
     }
 }
 
@@ -81,10 +95,19 @@ fn reason_of(cause: Cause) -> &'static str
     }
 }
 
-pub fn fault_words(heap: Global, cause: Cause) -> Result<String, AllocError>
-    ensures { IfOk result (λ s. string_bytes s ≡ fault_told (number cause) (reason cause)) }
-{
-    let number = cause.number();
-    let reason = reason_of(cause);
-    format!(in heap; "fault {number}, {reason}; the rest of the book is dropped")
+// What ended the reading of a book.
+#[derive(Clone, Copy)]
+pub struct Ended(pub Cause);
+
+impl fmt::Display for Ended {
+    ghost output = { λ x. Some (fault_told (number x.0) (reason x.0)) };
+
+    fn fmt<W: fmt::Write>(&self, f: &mut fmt::Formatter<W>) -> fmt::Result {
+        let number = self.0.number();
+        let reason = reason_of(self.0);
+        write!(
+            f,
+            "fault {number}, {reason}; the rest of the book is dropped"
+        )
+    }
 }
