@@ -6,26 +6,20 @@ use book::{Cause, Fault};
 // What is wrong with a card.
 #[derive(Clone, Copy, Debug, PartialEq, Eq)]
 pub enum CardCause {
-    UnknownByte,
-    CutOff,
+    UnknownByte = 20,
+    CutOff = 21,
     // A command that no card has there, or a number that does not rise.
-    OutOfPlace,
+    OutOfPlace = 22,
     // A value out of its limits, or a rule that names an absent step.
-    OutOfLimits,
-    TooLong,
+    OutOfLimits = 23,
+    TooLong = 24,
 }
 
 impl CardCause {
     pub fn number(self) -> u8
         ensures { result ≡ number self }
     {
-        match self {
-            CardCause::UnknownByte => 20,
-            CardCause::CutOff => 21,
-            CardCause::OutOfPlace => 22,
-            CardCause::OutOfLimits => 23,
-            CardCause::TooLong => 24,
-        }
+        self as u8
     }
 }
 
@@ -36,13 +30,15 @@ pub struct CardFault {
     pub offset: usize,
 }
 
-fn card_cause(cause: Cause) -> CardCause
-    ensures { result ≡ cause_of cause }
-{
-    match cause {
-        Cause::UnknownByte => CardCause::UnknownByte,
-        Cause::CutOff => CardCause::CutOff,
-        Cause::TooLong => CardCause::TooLong,
+impl From<Cause> for CardCause {
+    ghost from_gives = { λ c r. r ≡ cause_of c };
+
+    fn from(cause: Cause) -> CardCause {
+        match cause {
+            Cause::UnknownByte => CardCause::UnknownByte,
+            Cause::CutOff => CardCause::CutOff,
+            Cause::TooLong => CardCause::TooLong,
+        }
     }
 }
 
@@ -51,7 +47,7 @@ impl From<Fault> for CardFault {
 
     fn from(fault: Fault) -> CardFault {
         CardFault {
-            cause: card_cause(fault.cause),
+            cause: fault.cause.into(),
             offset: fault.offset,
         }
     }

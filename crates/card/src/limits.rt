@@ -50,10 +50,10 @@ pub(crate) fn fits(marks: &[bool; 32], command: &Command) -> bool
             && hour <= 1999,
         Command::SetPeriod { period } => is_from(1, 999, period),
         Command::SetSpan { span } => is_from(1, 2000, span),
-        Command::RemoveStep { .. } => false,
-        Command::SetDuration { .. } => false,
-        Command::RemoveRule { .. } => false,
-        Command::SetVessels { .. } => false,
+        Command::RemoveStep { .. }
+        | Command::SetDuration { .. }
+        | Command::RemoveRule { .. }
+        | Command::SetVessels { .. } => false,
     }
 }
 

@@ -5,7 +5,7 @@ ghost use Rattle.card.specs.Order.{rising, subject, place_after};
 use book::Command;
 
 // How far a card has come: what is due, or the last step or rule that was read.
-#[derive(Clone, Copy)]
+#[derive(Clone, Copy, Debug, PartialEq, Eq)]
 pub enum Stage {
     Period,
     Span,
@@ -32,18 +32,14 @@ pub(crate) fn stage_after(stage: Stage, command: &Command) -> Option<Stage>
         (Stage::Steps { last }, Command::AddStep { step, .. }) if rises(last, step) => {
             Some(Stage::Steps { last: Some(step) })
         }
-        (Stage::Steps { .. }, Command::After { rule, .. }) => Some(Stage::Rules { last: rule }),
-        (Stage::Steps { .. }, Command::Within { rule, .. }) => Some(Stage::Rules { last: rule }),
-        (Stage::Steps { .. }, Command::At { rule, .. }) => Some(Stage::Rules { last: rule }),
-        (Stage::Rules { last }, Command::After { rule, .. }) if last < rule => Some(Stage::Rules {
-            last: rule,
-        }),
-        (Stage::Rules { last }, Command::Within { rule, .. }) if last < rule => Some(Stage::Rules {
-            last: rule,
-        }),
-        (Stage::Rules { last }, Command::At { rule, .. }) if last < rule => Some(Stage::Rules {
-            last: rule,
-        }),
+        (
+            Stage::Steps { .. },
+            Command::After { rule, .. } | Command::Within { rule, .. } | Command::At { rule, .. },
+        ) => Some(Stage::Rules { last: rule }),
+        (
+            Stage::Rules { last },
+            Command::After { rule, .. } | Command::Within { rule, .. } | Command::At { rule, .. },
+        ) if last < rule => Some(Stage::Rules { last: rule }),
         _ => None,
     }
 }

@@ -1,14 +1,14 @@
 ghost use Rattle.std.specs.Prelude.{◌≡◌};
 ghost use Rattle.std.specs.Option.{option_map};
 ghost use Rattle.card.specs.Cards.{verdict, outcome, sheet_of};
-ghost use Rattle.card.specs.Finds.{answers_of, answers_from, nameless};
+ghost use Rattle.card.specs.Finds.{answers_of, answers_from};
 ghost use Rattle.card.specs.Source.{bytes_of, name_on};
 ghost use Rattle.card.specs.Told.{card_told};
 
 use super::Card;
 use crate::checking::check;
 use crate::faults::CardFault;
-use crate::lookups::{Found, FoundStep, NOTHING_FOUND, find};
+use crate::lookups::{Found, NOTHING_FOUND, find};
 use sheet::{Rule, Source};
 
 impl<'a> Card<'a> {
@@ -40,20 +40,8 @@ impl<'a> Card<'a> {
     pub fn name(&self, step: u8) -> Option<&'a [u8]>
         ensures { option_map (λ x. x.now) result ≡ name_on (bytes_of self.now) step }
     {
-        match self.look_up(step, 0).step {
-            Some(found) => Some(found.name),
-            None => None,
-        }
-    }
-}
-
-// What a source tells of a step.
-fn without_name(found: Option<FoundStep>) -> Option<(u16, u8)>
-    ensures { result ≡ option_map nameless found.entry }
-{
-    match found {
-        Some(step) => Some((step.duration, step.kind)),
-        None => None,
+        let found = self.look_up(step, 0).step?;
+        Some(found.name)
     }
 }
 
@@ -76,7 +64,8 @@ impl<'a> Source for Card<'a> {
     }
 
     fn step(&self, number: u8) -> Option<(u16, u8)> {
-        without_name(self.look_up(number, 0).step)
+        let step = self.look_up(number, 0).step?;
+        Some((step.duration, step.kind))
     }
 
     fn rule(&self, number: u8) -> Rule {
