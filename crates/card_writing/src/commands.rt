@@ -1,5 +1,5 @@
 // The commands that put what a sheet has on a card.
-ghost use Rattle.std.specs.Prelude.{◌≡◌, ◌≤◌, true, length, MatchOption};
+ghost use Rattle.std.specs.Prelude.{◌≡◌, ◌≤◌, true, length, IfSome};
 ghost use Rattle.book.specs.Commands.{said, width, add_step, set_period, set_span};
 ghost use Rattle.book.specs.Writing.{eight_bytes};
 ghost use Rattle.card_writing.specs.Contents.{said_by, rule_command};
@@ -37,7 +37,8 @@ pub(crate) fn step_command(number: u8, step: &Step) -> Command
 // Nothing for a free number.
 pub(crate) fn rule_command(number: u8, rule: &Rule) -> Option<Command>
     ensures says { said_by result ≡ rule_command number rule.now }
-    ensures fits { MatchOption result Unit (λ command. (width (said command) ≤ 7) × (eight_bytes (said command) ≡ true)) }
+    ensures short { IfSome result (λ command. width (said command) ≤ 7) }
+    ensures eight { IfSome result (λ command. eight_bytes (said command) ≡ true) }
 {
     match *rule {
         Rule::Free => None,

@@ -14,39 +14,23 @@ use sheet::Sheet;
 
 // The format has a spelling and the buffer the room, so that nothing is refused.
 fn put(command: &Command, buffer: &mut [u8], at: usize) -> usize
-    requires { (at + width (said command.now) ≤ length buffer.old) × (eight_bytes (said command.now) ≡ true) }
+    requires room { at + width (said command.now) ≤ length buffer.old }
+    requires eight { eight_bytes (said command.now) ≡ true }
     ensures put { Put buffer.old at (spelled_all (said command.now ∷ [])) result buffer.new }
     ensures end { result ≡ at + width (said command.now) }
     ensures len { length buffer.new ≡ length buffer.old }
 {
     match encode(command, buffer, at) {
         Ok(end) => end,
-        Err(_) => at,
+        Err(_) => unreachable!(),
     }
-}
-
-fn put_period(sheet: &Sheet, buffer: &mut [u8], at: usize) -> usize
-    requires { at + 3 ≤ length buffer.old }
-    ensures put { Put buffer.old at (spelled_all (set_period sheet.now.period ∷ [])) result buffer.new }
-    ensures end { result ≡ at + 3 }
-    ensures len { length buffer.new ≡ length buffer.old }
-{
-    put(&period_command(sheet), buffer, at)
-}
-
-fn put_span(sheet: &Sheet, buffer: &mut [u8], at: usize) -> usize
-    requires { at + 3 ≤ length buffer.old }
-    ensures put { Put buffer.old at (spelled_all (set_span sheet.now.span ∷ [])) result buffer.new }
-    ensures end { result ≡ at + 3 }
-    ensures len { length buffer.new ≡ length buffer.old }
-{
-    put(&span_command(sheet), buffer, at)
 }
 
 // A step that the sheet has not takes no bytes.
 fn put_step(sheet: &Sheet, number: u8, buffer: &mut [u8], at: usize) -> usize
     requires { at + 13 ≤ length buffer.old }
-    ensures put { Put buffer.old at (spelled_all (step_command number (numbered None sheet.now.steps number))) result buffer.new }
+    ensures put { Put buffer.old at (spelled_all (step_command number (numbered None sheet.now.steps number)))
+        result buffer.new }
     ensures most { result ≤ at + 13 }
     ensures len { length buffer.new ≡ length buffer.old }
 {
@@ -59,7 +43,8 @@ fn put_step(sheet: &Sheet, number: u8, buffer: &mut [u8], at: usize) -> usize
 // A free number takes no bytes.
 fn put_rule(sheet: &Sheet, number: u8, buffer: &mut [u8], at: usize) -> usize
     requires { at + 7 ≤ length buffer.old }
-    ensures put { Put buffer.old at (spelled_all (rule_command number (numbered Free sheet.now.rules number))) result buffer.new }
+    ensures put { Put buffer.old at (spelled_all (rule_command number (numbered Free sheet.now.rules number)))
+        result buffer.new }
     ensures most { result ≤ at + 7 }
     ensures len { length buffer.new ≡ length buffer.old }
 {
@@ -77,8 +62,7 @@ fn put_steps(sheet: &Sheet, buffer: &mut [u8], at: usize) -> usize
     ensures len { length buffer.new ≡ length buffer.old }
 {
     let mut place = at;
-    for below in 0..31u8 {
-        let number = below + 1;
+    for number in 1..32u8 {
         place = put_step(sheet, number, buffer, place);
     }
     place
@@ -92,8 +76,7 @@ fn put_rules(sheet: &Sheet, buffer: &mut [u8], at: usize) -> usize
     ensures len { length buffer.new ≡ length buffer.old }
 {
     let mut place = at;
-    for below in 0..96u8 {
-        let number = below + 1;
+    for number in 1..97u8 {
         place = put_rule(sheet, number, buffer, place);
     }
     place
@@ -105,8 +88,8 @@ pub(crate) fn put_card(sheet: &Sheet, buffer: &mut [u8]) -> usize
     ensures put { Put buffer.old 0 (card_of sheet.now) result buffer.new }
     ensures most { result ≤ card_room }
 {
-    let behind_period = put_period(sheet, buffer, 0);
-    let behind_span = put_span(sheet, buffer, behind_period);
+    let behind_period = put(&period_command(sheet), buffer, 0);
+    let behind_span = put(&span_command(sheet), buffer, behind_period);
     let behind_steps = put_steps(sheet, buffer, behind_span);
     put_rules(sheet, buffer, behind_steps)
 }

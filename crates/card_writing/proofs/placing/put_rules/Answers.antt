@@ -1,9 +1,15 @@
-use Rattle.std.proofs.Common.{arith}
-use Rattle.card_writing.proofs.Bytes.{put_to_none, put_to_more}
+use Rattle.std.proofs.Common.{◌-◌, arith}
+use Rattle.card_writing.proofs.Bytes.{put_below_one, put_below_more}
 use Rattle.card_writing.proofs.placing.put_rules.Goals as goal
 
-pub loop-below-init : goal.loop-below-init
-loop-below-init c = put_to_none _ _ c.args.buffer.now c.args.at (omega arith)
+pub loop-number-init : goal.loop-number-init
+loop-number-init c = put_below_one _ _ c.args.buffer.now c.args.at (omega arith)
 
-pub loop-below-preserved : goal.loop-below-preserved
-loop-below-preserved c = put_to_more _ c.loop-below.invariant c.put_rule-place.ensures.put c.put_rule-place.ensures.most
+pub loop-number-preserved : goal.loop-number-preserved
+loop-number-preserved c = put_below_more _ c.loop-number.number (omega arith) c.loop-number.invariant c.put_rule-place.ensures.put c.put_rule-place.ensures.most
+
+pub returns : goal.returns
+returns c = let all = c.loop-number.invariant 96 (omega arith) in record { put = all.put; most = omega (arith, all.most); len = all.len }
+
+pub put_rule-place-requires : goal.put_rule-place-requires
+put_rule-place-requires c = let all = c.loop-number.invariant (c.loop-number.number - 1) (omega arith) in omega (arith, all.most)
