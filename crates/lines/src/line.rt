@@ -6,7 +6,7 @@ use super::placing::{put_period, put_refused, put_report, put_step};
 use merge::Report;
 
 // One line of the printed sheet.
-#[derive(Clone, Copy)]
+#[derive(Clone, Copy, Debug, PartialEq, Eq)]
 pub enum Line {
     // The merge was refused whole, by this number.
     Refused {
@@ -31,16 +31,14 @@ pub enum Line {
 #[derive(Clone, Copy, Debug, PartialEq, Eq)]
 pub enum LineRefusal {
     // The buffer has fewer than 32 bytes.
-    TooShort,
+    TooShort = 30,
 }
 
 impl LineRefusal {
     pub fn number(self) -> u8
         ensures { result ≡ line_number self }
     {
-        match self {
-            LineRefusal::TooShort => 30,
-        }
+        self as u8
     }
 }
 
