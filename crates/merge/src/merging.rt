@@ -1,5 +1,5 @@
 // Books are entered command by command, each into the sheet then standing; every refusal is reported.
-ghost use Rattle.std.specs.Prelude.{◌≡◌, ◌+◌, ◌<◌, ◌≤◌, length, MatchBool};
+ghost use Rattle.std.specs.Prelude.{◌≡◌, ◌+◌, ◌<◌, ◌≤◌, ◌↔◌, length, IsTrue};
 ghost use Rattle.book.specs.Reading.{item_of, book_of, place_of};
 ghost use Rattle.planner.specs.Entering.{sheet_of};
 ghost use Rattle.merge.specs.Books.{offset_in};
@@ -29,7 +29,8 @@ fn enter_item(
     hours: &mut [Hours],
 ) -> Result<(), Refusal>
     requires { 1024 ≤ length hours.old }
-    ensures { ItemEntered (sheet_of planner.old) (item_of item.entry) hours.old hours.new (sheet_of planner.new) result }
+    ensures { ItemEntered (sheet_of planner.old) (item_of item.entry) hours.old hours.new
+        (sheet_of planner.new) result }
 {
     let entry = item?;
     planner.admit(&entry.command, hours)
@@ -44,8 +45,10 @@ fn take_item(
     reports: &mut [Report],
     count: usize,
 ) -> usize
-    requires { (1024 ≤ length hours.old) × (count < length reports.old) }
-    ensures { ItemTaken book (sheet_of planner.old) (item_of item.entry) hours.old hours.new reports.old reports.new count (sheet_of planner.new) result }
+    requires room { 1024 ≤ length hours.old }
+    requires place { count < length reports.old }
+    ensures { ItemTaken book (sheet_of planner.old) (item_of item.entry) hours.old hours.new reports.old
+        reports.new count (sheet_of planner.new) result }
 {
     let offset = offset_of(&item);
     match enter_item(planner, item, hours) {
@@ -69,9 +72,12 @@ fn take_items(
     hours: &mut [Hours],
     reports: &mut [Report],
 ) -> usize
-    requires { (1024 ≤ length hours.old) × ((place_of reader.old ≡ 0) × (half (length (book_of reader.old)) ≤ length reports.old)) }
+    requires room { 1024 ≤ length hours.old }
+    requires front { place_of reader.old ≡ 0 }
+    requires reports { half (length (book_of reader.old)) ≤ length reports.old }
     ensures few { result ≤ half (length (book_of reader.old)) }
-    ensures taken { ItemsTaken book (book_of reader.old) (place_of reader.old) (sheet_of planner.old) hours.old hours.new reports.old reports.new (sheet_of planner.new) result }
+    ensures taken { ItemsTaken book (book_of reader.old) (place_of reader.old) (sheet_of planner.old) hours.old
+        hours.new reports.old reports.new (sheet_of planner.new) result }
 {
     let mut count = 0;
     while let Some(item) = reader.read_next() {
@@ -88,13 +94,16 @@ fn take_book(
     hours: &mut [Hours],
     reports: &mut [Report],
 ) -> usize
-    requires { (length bytes.now ≤ 4096) × ((1024 ≤ length hours.old) × (half (length bytes.now) ≤ length reports.old)) }
+    requires short { length bytes.now ≤ 4096 }
+    requires room { 1024 ≤ length hours.old }
+    requires reports { half (length bytes.now) ≤ length reports.old }
     ensures few { result ≤ half (length bytes.now) }
-    ensures taken { BookTaken book bytes.now (sheet_of planner.old) hours.old hours.new reports.old reports.new (sheet_of planner.new) result }
+    ensures taken { BookTaken book bytes.now (sheet_of planner.old) hours.old hours.new reports.old reports.new
+        (sheet_of planner.new) result }
 {
     match Reader::new(bytes) {
         Ok(mut reader) => take_items(planner, book, &mut reader, hours, reports),
-        Err(_) => unreachable(),
+        Err(_) => unreachable!(),
     }
 }
 
@@ -107,9 +116,12 @@ fn take_either(
     hours: &mut [Hours],
     reports: &mut [Report],
 ) -> usize
-    requires { (Readable office.now tablet.now) × ((1024 ≤ length hours.old) × (half (length (bytes_of book office.now tablet.now)) ≤ length reports.old)) }
+    requires readable { Readable office.now tablet.now }
+    requires room { 1024 ≤ length hours.old }
+    requires reports { half (length (bytes_of book office.now tablet.now)) ≤ length reports.old }
     ensures few { result ≤ half (length (bytes_of book office.now tablet.now)) }
-    ensures taken { BookTaken book (bytes_of book office.now tablet.now) (sheet_of planner.old) hours.old hours.new reports.old reports.new (sheet_of planner.new) result }
+    ensures taken { BookTaken book (bytes_of book office.now tablet.now) (sheet_of planner.old) hours.old
+        hours.new reports.old reports.new (sheet_of planner.new) result }
 {
     match book {
         Book::Office => take_book(planner, book, office, hours, reports),
@@ -125,8 +137,11 @@ fn take_both(
     hours: &mut [Hours],
     reports: &mut [Report],
 ) -> usize
-    requires { (Readable office.now tablet.now) × (Room office.now tablet.now (record { hours = hours.old; reports = reports.old })) }
-    ensures { Done (sheet_of planner.old) office.now tablet.now (record { hours = hours.old; reports = reports.old }) result (sheet_of planner.new) (record { hours = hours.new; reports = reports.new }) }
+    requires readable { Readable office.now tablet.now }
+    requires room { Room office.now tablet.now (record { hours = hours.old; reports = reports.old }) }
+    ensures { Done (sheet_of planner.old) office.now tablet.now
+        (record { hours = hours.old; reports = reports.old }) result (sheet_of planner.new)
+        (record { hours = hours.new; reports = reports.new }) }
 {
     let first = take_either(planner, Book::Office, office, tablet, hours, reports);
     let second = take_either(
@@ -141,22 +156,21 @@ fn take_both(
 }
 
 fn is_readable(office: &[u8], tablet: &[u8]) -> bool
-    ensures { MatchBool result (Readable office.now tablet.now) (Readable office.now tablet.now → ⊥) }
+    ensures { IsTrue result ↔ Readable office.now tablet.now }
 {
     office.len() <= BOOK_LIMIT && tablet.len() <= BOOK_LIMIT
 }
 
 // Half of a book's bytes, rounded up.
 fn half_of(book: &[u8]) -> usize
-    requires { length book.now ≤ 4096 }
     ensures { result ≡ half (length book.now) }
 {
-    (book.len() + 1) / 2
+    book.len().div_ceil(2)
 }
 
 fn has_room(office: &[u8], tablet: &[u8], hours: &[Hours], reports: &[Report]) -> bool
-    requires { Readable office.now tablet.now }
-    ensures { MatchBool result (Room office.now tablet.now (record { hours = hours.now; reports = reports.now })) (Room office.now tablet.now (record { hours = hours.now; reports = reports.now }) → ⊥) }
+    ensures { IsTrue result
+        ↔ Room office.now tablet.now (record { hours = hours.now; reports = reports.now }) }
 {
     hours.len() >= 1024 && reports.len() >= half_of(office) + half_of(tablet)
 }
@@ -170,7 +184,9 @@ pub fn merge(
     hours: &mut [Hours],
     reports: &mut [Report],
 ) -> Result<usize, MergeRefusal>
-    ensures { Merged (sheet_of planner.old) office.now tablet.now (record { hours = hours.old; reports = reports.old }) (sheet_of planner.new) (record { hours = hours.new; reports = reports.new }) result }
+    ensures { Merged (sheet_of planner.old) office.now tablet.now
+        (record { hours = hours.old; reports = reports.old }) (sheet_of planner.new)
+        (record { hours = hours.new; reports = reports.new }) result }
 {
     if !is_readable(office, tablet) {
         return Err(MergeRefusal::TooLong);

@@ -5,18 +5,15 @@ ghost use Rattle.merge.specs.Refusals.{merge_number};
 #[derive(Clone, Copy, Debug, PartialEq, Eq)]
 pub enum MergeRefusal {
     // A book has more than 4,096 bytes.
-    TooLong,
+    TooLong = 24,
     // A buffer is too short.
-    TooShort,
+    TooShort = 30,
 }
 
 impl MergeRefusal {
     pub fn number(self) -> u8
         ensures { result ≡ merge_number self }
     {
-        match self {
-            MergeRefusal::TooLong => 24,
-            MergeRefusal::TooShort => 30,
-        }
+        self as u8
     }
 }

@@ -6,18 +6,15 @@ use planner::Refusal;
 // The office keeps its book at a computer, the crew theirs on a tablet by the tanks.
 #[derive(Clone, Copy, Debug, PartialEq, Eq)]
 pub enum Book {
-    Office,
-    Tablet,
+    Office = 1,
+    Tablet = 2,
 }
 
 impl Book {
     pub fn number(self) -> u8
         ensures { result ≡ book_number self }
     {
-        match self {
-            Book::Office => 1,
-            Book::Tablet => 2,
-        }
+        self as u8
     }
 }
 
@@ -30,7 +27,7 @@ pub struct Report {
 }
 
 // A refusal, and where in which book it came about.
-#[derive(Clone, Copy)]
+#[derive(Clone, Copy, Debug, PartialEq, Eq)]
 pub struct Refused {
     pub book: Book,
     pub offset: usize,

@@ -12,6 +12,6 @@ returns c =
     let rest = c.take_either-second.new.reports in
     both (sheet_of c.args.planner.now) (sheet_of c.take_either-first.new.planner) (sheet_of c.take_either-second.new.planner) c.args.office.now c.args.tablet.now
     c.args.hours.now c.take_either-first.new.hours c.take_either-second.new.hours c.args.reports.now between _ rest n c.take_either-second.result
-    c.requires.0 c.requires.1 c.take_either-first.ensures.taken
+    c.requires.readable c.requires.room c.take_either-first.ensures.taken
     (subst (λ xs. BookTaken Tablet c.args.tablet.now (sheet_of c.take_either-first.new.planner) c.take_either-first.new.hours c.take_either-second.new.hours xs rest (sheet_of c.take_either-second.new.planner) c.take_either-second.result) (part_is n between) c.take_either-second.ensures.taken)
     (end_is n between rest)
