@@ -26,6 +26,15 @@ pub struct Report {
     pub number: u8,
 }
 
+impl Report {
+    // Fills a buffer that no merge has written to yet.
+    pub const BLANK: Report = Report {
+        book: Book::Office,
+        offset: 0,
+        number: 0,
+    };
+}
+
 // A refusal, and where in which book it came about.
 #[derive(Clone, Copy, Debug, PartialEq, Eq)]
 pub struct Refused {

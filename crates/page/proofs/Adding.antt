@@ -1,5 +1,5 @@
 -- Text added behind text. Assumes nothing.
-use Rattle.std.proofs.Common.{◌≡◌, ℕ, suc, ◌+◌, ◌<◌, ◌≤◌, Bool, true, false, cond, leb, List, [], ◌∷◌, ◌++◌, length, get_or, take, drop, is_ok, IfOk, None, Ok, Err, Result, sym, refl, ap, ◌∙◌, subst, arith, length-append}
+use Rattle.std.proofs.Common.{◌≡◌, ℕ, zero, suc, ◌+◌, ◌<◌, ◌≤◌, Bool, true, false, cond, leb, List, [], ◌∷◌, ◌++◌, length, get_or, take, drop, is_ok, IfOk, None, Ok, Err, Result, sym, refl, ap, ◌∙◌, subst, arith, length-append}
 use Rattle.std.proofs.lemmas.List.{append-nil, append_assoc, take_more, take_at}
 use Rattle.std.proofs.lemmas.Bool.{true≢false}
 use Rattle.std.specs.List.{flat_map}
@@ -50,7 +50,7 @@ step_added sheet n before after line (Ok done) is e = record { line = line; is_l
 step_added sheet n before after line (Err why) is e = tt
 
 -- one step more
-pub steps_more : (sheet : Sheet) (n : ℕ) (before between after : List ℕ) → StepsAdded sheet n before between → StepAdded sheet (n + 1) between after → StepsAdded sheet (n + 1) before after
+steps_more : (sheet : Sheet) (n : ℕ) (before between after : List ℕ) → StepsAdded sheet n before between → StepAdded sheet (n + 1) between after → StepsAdded sheet (n + 1) before after
 steps_more sheet n before between after added step =
     let next : suc n ≡ n + 1 = omega arith in
     subst (λ k. StepsAdded sheet k before after) next (record {
@@ -65,8 +65,24 @@ joined_more f xs i d before between after low so_far e =
     e ∙ ap (λ t. t ++ f (get_or xs i d)) so_far ∙ append_assoc before (flat_map f (take i xs)) (f (get_or xs i d))
     ∙ ap (λ t. before ++ t) (sym (joined_push f (take i xs) (get_or xs i d)) ∙ ap (flat_map f) (sym (take_more xs i d low)))
 
-pub no_steps : (sheet : Sheet) (text : List ℕ) → StepsAdded sheet 0 text text
+no_steps : (sheet : Sheet) (text : List ℕ) → StepsAdded sheet 0 text text
 no_steps sheet text = record { steps = []; are_steps = refl; added = sym (append-nil text) }
+
+-- the lines of the steps below a number
+abbrev pub StepsBelow : Sheet → ℕ → List ℕ → List ℕ → Type 0
+StepsBelow sheet number before after = (n : ℕ) → number ≡ suc n → StepsAdded sheet n before after
+
+pub below_one : (sheet : Sheet) (text : List ℕ) → StepsBelow sheet 1 text text
+below_one sheet text zero e = no_steps sheet text
+below_one sheet text (suc n) e = absurd (omega arith)
+
+pub below_more : (sheet : Sheet) (number : ℕ) (before between after : List ℕ) → 1 ≤ number → StepsBelow sheet number before between → StepAdded sheet number between after → StepsBelow sheet (number + 1) before after
+below_more sheet zero before between after above so_far step n e = absurd (omega arith)
+below_more sheet (suc m) before between after above so_far step n e =
+    let here : suc m ≡ m + 1 = omega arith in
+    let there : m + 1 ≡ n = omega arith in
+    let step_here : StepAdded sheet (m + 1) between after = subst (λ k. StepAdded sheet k between after) here step in
+    subst (λ k. StepsAdded sheet k before after) there (steps_more sheet m before between after (so_far m refl) step_here)
 
 -- reports, then the line of the period, then steps
 sheet_added : (sheet : Sheet) (reports : List Report) (bound : ℕ) (text first second third : List ℕ) → IsBound (rule_sheet sheet) bound

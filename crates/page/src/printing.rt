@@ -12,7 +12,7 @@ use book::BOOK_LIMIT;
 use bound::period_bound;
 use kinds::{Counted, Hours};
 use lines::Line;
-use merge::{Book, Report, merge};
+use merge::{Report, merge};
 use planner::Planner;
 use sheet::Source;
 use std::alloc::{AllocError, Global};
@@ -23,7 +23,7 @@ fn add_line(text: &mut Vec<u8>, line: Line) -> Result<(), AllocError>
     let mut buffer = [0; 32];
     match line.write(&mut buffer) {
         Ok(length) => text.extend_from_slice(&buffer[..length]),
-        Err(_) => unreachable(),
+        Err(_) => unreachable!(),
     }
 }
 
@@ -39,8 +39,10 @@ fn add_reports(text: &mut Vec<u8>, reports: &[Report]) -> Result<(), AllocError>
 
 // The line of a step, if the step is there.
 fn step_line(planner: &Planner, number: u8) -> Option<Line>
-    requires { (1 ≤ number) × (number ≤ 31) }
-    ensures { LineOf (sheet_of planner.now) number (numbered None (sheet_of planner.now).steps number) (text_if result) }
+    requires low { 1 ≤ number }
+    requires high { number ≤ 31 }
+    ensures { LineOf (sheet_of planner.now) number
+        (numbered None (sheet_of planner.now).steps number) (text_if result) }
 {
     match (planner.name(number), planner.window(number)) {
         (Ok(name), Ok((earliest, latest))) => Some(Line::Step {
@@ -54,7 +56,8 @@ fn step_line(planner: &Planner, number: u8) -> Option<Line>
 }
 
 fn add_step(text: &mut Vec<u8>, planner: &Planner, number: u8) -> Result<(), AllocError>
-    requires { (1 ≤ number) × (number ≤ 31) }
+    requires low { 1 ≤ number }
+    requires high { number ≤ 31 }
     ensures { OnOk result (StepAdded (sheet_of planner.now) number text.old.items text.new.items) }
 {
     match step_line(planner, number) {
@@ -66,8 +69,8 @@ fn add_step(text: &mut Vec<u8>, planner: &Planner, number: u8) -> Result<(), All
 fn add_steps(text: &mut Vec<u8>, planner: &Planner) -> Result<(), AllocError>
     ensures { OnOk result (StepsAdded (sheet_of planner.now) 31 text.old.items text.new.items) }
 {
-    for below in 0..31u8 {
-        add_step(text, planner, below + 1)?;
+    for number in 1..32u8 {
+        add_step(text, planner, number)?;
     }
     Ok(())
 }
@@ -82,14 +85,15 @@ fn bound_of(planner: &Planner) -> u16
     let mut codes = [0; 32];
     match period_bound(planner, &mut hours, &mut counted, &mut codes) {
         Ok(bound) => bound,
-        Err(_) => unreachable(),
+        Err(_) => unreachable!(),
     }
 }
 
 // The reports, then the period and the bound, then the steps.
 fn add_sheet(text: &mut Vec<u8>, planner: &Planner, reports: &[Report]) -> Result<(), AllocError>
     requires { Possible (sheet_of planner.now) }
-    ensures { OnOk result (SheetAdded (sheet_of planner.now) reports.now text.old.items text.new.items) }
+    ensures { OnOk result (
+        SheetAdded (sheet_of planner.now) reports.now text.old.items text.new.items) }
 {
     add_reports(text, reports)?;
     let period = planner.period();
@@ -101,19 +105,13 @@ fn add_sheet(text: &mut Vec<u8>, planner: &Planner, reports: &[Report]) -> Resul
 // The longest list of reports: half of each book's bytes.
 const MOST_REPORTS: usize = BOOK_LIMIT;
 
-const NO_REPORT: Report = Report {
-    book: Book::Office,
-    offset: 0,
-    number: 0,
-};
-
 // Merges the two books into an empty planner and adds what is printed of it.
 fn add_page(text: &mut Vec<u8>, office: &[u8], tablet: &[u8]) -> Result<(), AllocError>
     ensures { OnOk result (PageAdded office.now tablet.now text.old.items text.new.items) }
 {
     let mut planner = Planner::empty();
     let mut hours = [Hours { hours: 0 }; 1024];
-    let mut reports = [NO_REPORT; MOST_REPORTS];
+    let mut reports = [Report::BLANK; MOST_REPORTS];
     match merge(&mut planner, office, tablet, &mut hours, &mut reports) {
         Ok(count) => add_sheet(text, &planner, &reports[..count]),
         Err(refusal) => {

@@ -7,7 +7,7 @@ ghost use Rattle.runs.specs.Turns.{asked_at, CallTaken, Running, RunTaken};
 use super::calls::{Call, Note};
 use book::Command;
 use kinds::{Counted, Hours};
-use merge::{Book, Report, merge};
+use merge::{Report, merge};
 use planner::Planner;
 use std::alloc::{AllocError, Global};
 
@@ -48,12 +48,6 @@ fn take_command(
     }
 }
 
-const NO_REPORT: Report = Report {
-    book: Book::Office,
-    offset: 0,
-    number: 0,
-};
-
 fn take_merge(
     planner: &mut Planner,
     office: &[u8],
@@ -64,7 +58,7 @@ fn take_merge(
     ensures { OnOk result (CallTaken (sheet_of planner.old) (merges office.now tablet.now) call notes.old.items notes.new.items (sheet_of planner.new)) }
 {
     let mut hours = [Hours { hours: 0 }; 1024];
-    let mut reports = [NO_REPORT; 4096];
+    let mut reports = [Report::BLANK; 4096];
     match merge(planner, office, tablet, &mut hours, &mut reports) {
         Ok(count) => note_reports(notes, call, &reports[..count]),
         Err(refusal) => {

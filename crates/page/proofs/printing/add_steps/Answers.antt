@@ -1,17 +1,14 @@
-use Rattle.std.proofs.Common.{◌≡◌, vec_items, subst, arith}
+use Rattle.std.proofs.Common.{vec_items, arith}
 use Rattle.planner.specs.Entering.{sheet_of}
-use Rattle.page.proofs.Adding.{no_steps, steps_more}
-use Rattle.page.specs.Parts.{StepsAdded}
+use Rattle.page.proofs.Adding.{below_one, below_more}
 use Rattle.page.proofs.printing.add_steps.Goals as goal
 
-pub loop-below-init : goal.loop-below-init
-loop-below-init c = no_steps (sheet_of c.args.planner.now) (vec_items c.args.text.now)
+pub loop-number-init : goal.loop-number-init
+loop-number-init c = below_one (sheet_of c.args.planner.now) (vec_items c.args.text.now)
 
-pub loop-below-preserved : goal.loop-below-preserved
-loop-below-preserved c =
-    steps_more (sheet_of c.args.planner.now) c.loop-below.below (vec_items c.args.text.now) (vec_items c.loop-below.text) (vec_items c.add_step.new.text) c.loop-below.invariant c.in_ok-add_step.ensures
+pub loop-number-preserved : goal.loop-number-preserved
+loop-number-preserved c =
+    below_more (sheet_of c.args.planner.now) c.loop-number.number (vec_items c.args.text.now) (vec_items c.loop-number.text) (vec_items c.add_step.new.text) (omega arith) c.loop-number.invariant c.in_ok-add_step.ensures
 
 pub returns : goal.returns
-returns c =
-    let all : c.loop-below.below ≡ 31 = omega arith in
-    subst (λ n. StepsAdded (sheet_of c.args.planner.now) n (vec_items c.args.text.now) (vec_items c.loop-below.text)) all c.loop-below.invariant
+returns c = c.loop-number.invariant 31 (omega arith)
