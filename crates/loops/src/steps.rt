@@ -1,5 +1,5 @@
 // Single links on the walk along a loop.
-ghost use Rattle.std.specs.Prelude.{◌≡◌, ◌<◌, ◌≤◌, length, Decides};
+ghost use Rattle.std.specs.Prelude.{◌≡◌, ◌<◌, ◌≤◌, ◌↔◌, length, IsTrue};
 ghost use Rattle.chart.specs.Cells.{at as entry_at};
 ghost use Rattle.kinds.specs.Together.{no_link};
 ghost use Rattle.sheet.specs.Links.{IsLink};
@@ -11,16 +11,12 @@ use links::{CODES, link_with_code};
 use sheet::{Link, Source};
 
 fn cell(cells: &[Counted], row: usize, column: usize) -> Counted
-    requires { (1024 ≤ length cells.now) × ((row < 32) × (column < 32)) }
+    requires room { 1024 ≤ length cells.now }
+    requires row { row < 32 }
+    requires column { column < 32 }
     ensures { result ≡ entry_at no_link cells.now row column }
 {
     cells[32 * row + column]
-}
-
-fn same(x: Counted, y: Counted) -> bool
-    ensures { Decides result (x ≡ y) }
-{
-    x.hours == y.hours && x.links == y.links
 }
 
 fn is_whole_way<S: Source>(
@@ -31,14 +27,13 @@ fn is_whole_way<S: Source>(
     here: usize,
     link: &Link,
 ) -> bool
-    requires { (Stopped (S.Source.sheet source.now).told places.now stop cells.now) × (here < places.now.count) }
-    ensures { Decides result (WholeWay (S.Source.sheet source.now).told.period places.now stop here cells.now link.now) }
+    requires stopped { Stopped (S.Source.sheet source.now).told places.now stop cells.now }
+    requires here { here < places.now.count }
+    ensures { let sheet = (S.Source.sheet source.now).told in
+        IsTrue result ↔ WholeWay sheet.period places.now stop here cells.now link.now }
 {
     link.to == places.list[stop]
-        && same(
-            Counted::of_link(link, source.period()),
-            cell(cells, here, stop),
-        )
+        && Counted::of_link(link, source.period()) == cell(cells, here, stop)
 }
 
 fn is_part_way<S: Source>(
@@ -49,16 +44,19 @@ fn is_part_way<S: Source>(
     here: usize,
     link: &Link,
 ) -> bool
-    requires stopped { (Stopped (S.Source.sheet source.now).told places.now stop cells.now) × (here < places.now.count) }
+    requires stopped { Stopped (S.Source.sheet source.now).told places.now stop cells.now }
+    requires here { here < places.now.count }
     requires link { IsLink (S.Source.sheet source.now).told link.now }
-    ensures { Decides result (PartWay (S.Source.sheet source.now).told.period places.now stop here cells.now link.now) }
+    ensures { let sheet = (S.Source.sheet source.now).told in
+        IsTrue result ↔ PartWay sheet.period places.now stop here cells.now link.now }
 {
     let next = places.positions[link.to as usize] as usize;
     if next >= stop {
         return false;
     }
     let value = Counted::of_link(link, source.period());
-    same(value.plus(cell(cells, next, stop)), cell(cells, here, stop))
+    let way = value.plus(cell(cells, next, stop));
+    way == cell(cells, here, stop)
 }
 
 fn accounts<S: Source>(
@@ -69,9 +67,11 @@ fn accounts<S: Source>(
     here: usize,
     link: &Link,
 ) -> bool
-    requires stopped { (Stopped (S.Source.sheet source.now).told places.now stop cells.now) × (here < places.now.count) }
+    requires stopped { Stopped (S.Source.sheet source.now).told places.now stop cells.now }
+    requires here { here < places.now.count }
     requires link { IsLink (S.Source.sheet source.now).told link.now }
-    ensures { Decides result (Accounts (S.Source.sheet source.now).told.period places.now stop here cells.now link.now) }
+    ensures { let sheet = (S.Source.sheet source.now).told in
+        IsTrue result ↔ Accounts sheet.period places.now stop here cells.now link.now }
 {
     link.from == places.list[here]
         && (is_whole_way(source, places, cells, stop, here, link)
@@ -87,17 +87,13 @@ fn try_code<S: Source>(
     here: usize,
     code: u16,
 ) -> Option<Link>
-    requires { (Stopped (S.Source.sheet source.now).told places.now stop cells.now) × (here < places.now.count) }
-    ensures { FoundAt (S.Source.sheet source.now).told places.now stop here cells.now code result }
+    requires stopped { Stopped (S.Source.sheet source.now).told places.now stop cells.now }
+    requires here { here < places.now.count }
+    ensures { let sheet = (S.Source.sheet source.now).told in
+        FoundAt sheet places.now stop here cells.now code result }
 {
-    let Some(link) = link_with_code(source, code) else {
-        return None;
-    };
-    if accounts(source, places, cells, stop, here, &link) {
-        Some(link)
-    } else {
-        None
-    }
+    let link = link_with_code(source, code)?;
+    accounts(source, places, cells, stop, here, &link).then_some(link)
 }
 
 fn find_link<S: Source>(
@@ -107,15 +103,12 @@ fn find_link<S: Source>(
     stop: usize,
     here: usize,
 ) -> Option<Link>
-    requires { (Stopped (S.Source.sheet source.now).told places.now stop cells.now) × (here < places.now.count) }
-    ensures { FoundBelow (S.Source.sheet source.now).told places.now stop here cells.now 432 result }
+    requires stopped { Stopped (S.Source.sheet source.now).told places.now stop cells.now }
+    requires here { here < places.now.count }
+    ensures { let sheet = (S.Source.sheet source.now).told in
+        FoundBelow sheet places.now stop here cells.now 432 result }
 {
-    for code in 0..CODES {
-        if let Some(link) = try_code(source, places, cells, stop, here, code) {
-            return Some(link);
-        }
-    }
-    None
+    (0..CODES).find_map(|code| try_code(source, places, cells, stop, here, code))
 }
 
 // A link that accounts for the entry from position `here` to the position at which the chart stopped.
@@ -126,13 +119,15 @@ pub(crate) fn next_link<S: Source>(
     stop: usize,
     here: usize,
 ) -> Link
-    requires stopped { (Stopped (S.Source.sheet source.now).told places.now stop cells.now) × (here < places.now.count) }
+    requires stopped { Stopped (S.Source.sheet source.now).told places.now stop cells.now }
+    requires here { here < places.now.count }
     requires links { 0 < (entry_at no_link cells.now here stop).links }
     ensures link { IsLink (S.Source.sheet source.now).told result }
-    ensures accounts { Accounts (S.Source.sheet source.now).told.period places.now stop here cells.now result }
+    ensures accounts { let sheet = (S.Source.sheet source.now).told in
+        Accounts sheet.period places.now stop here cells.now result }
 {
-    match find_link(source, places, cells, stop, here) {
-        Some(link) => link,
-        None => unreachable(),
-    }
+    let Some(link) = find_link(source, places, cells, stop, here) else {
+        unreachable!()
+    };
+    link
 }

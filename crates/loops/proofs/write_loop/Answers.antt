@@ -9,16 +9,16 @@ use Rattle.loops.proofs.write_loop.Goals.{After-next_link-link}
 
 -- so far fewer than 32 links were walked
 few : (g : given.Over) (c : After-next_link-link g) → c.loop-here.count < 32
-few g c = room (g.S.Source.sheet c.args.source.now) c.requires.0 c.loop-here.invariant c.next_link-link.result c.next_link-link.ensures.link c.next_link-link.ensures.accounts
+few g c = room (g.S.Source.sheet c.args.source.now) c.requires.stopped c.loop-here.invariant c.next_link-link.result c.next_link-link.ensures.link c.next_link-link.ensures.accounts
 
 pub loop-here-init : goal.loop-here-init
-loop-here-init g c = walked_none (g.S.Source.sheet c.args.source.now) c.requires.0 c.args.codes.now
+loop-here-init g c = walked_none (g.S.Source.sheet c.args.source.now) c.requires.stopped c.args.codes.now
 
 pub put_code-requires : goal.put_code-requires
 put_code-requires g c =
     let h : c.loop-here.count < 32 = few g (goal.at.put_code-requires g c).After-next_link-link in
     let k = c.loop-here.auto.codes in
-    let l : 32 ≤ length c.args.codes.now = c.requires.1 in
+    let l : 32 ≤ length c.args.codes.now = c.requires.codes in
     omega arith
 
 pub overflow_add-count : goal.overflow_add-count
@@ -26,24 +26,24 @@ overflow_add-count g c = let h : c.loop-here.count < 32 = few g (goal.at.overflo
 
 pub bounds-places-link : goal.bounds-places-link
 bounds-places-link g c =
-    (ends_low counted_laws (g.S.Source.sheet c.args.source.now) c.args.places.now c.requires.0.places c.next_link-link.result c.next_link-link.ensures.link).1
+    (ends_low counted_laws (g.S.Source.sheet c.args.source.now) c.args.places.now c.requires.stopped.places c.next_link-link.result c.next_link-link.ensures.link).1
 
 pub returns-then-here-stop : goal.returns-then-here-stop
 returns-then-here-stop g c =
     let sheet = g.S.Source.sheet c.args.source.now in
     let h : c.loop-here.count < 32 = few g (goal.at.returns-then-here-stop g c).After-next_link-link in
-    let l : 32 ≤ length c.args.codes.now = c.requires.1 in
+    let l : 32 ≤ length c.args.codes.now = c.requires.codes in
     subst (λ codes. LoopWritten sheet.told c.args.codes.now codes (c.loop-here.count + 1)) (sym c.put_code.ensures)
-    (walked_back sheet c.requires.0 c.loop-here.invariant c.next_link-link.result c.next_link-link.ensures.link c.next_link-link.ensures.accounts c.if-here-stop.true (omega arith))
+    (walked_back sheet c.requires.stopped c.loop-here.invariant c.next_link-link.result c.next_link-link.ensures.link c.next_link-link.ensures.accounts c.if-here-stop.true (omega arith))
 
 pub loop-here-smaller : goal.loop-here-smaller
 loop-here-smaller g c =
-    walked_falls (g.S.Source.sheet c.args.source.now) c.requires.0 c.loop-here.invariant c.next_link-link.result c.next_link-link.ensures.link c.next_link-link.ensures.accounts c.if-here-stop.false
+    walked_falls (g.S.Source.sheet c.args.source.now) c.requires.stopped c.loop-here.invariant c.next_link-link.result c.next_link-link.ensures.link c.next_link-link.ensures.accounts c.if-here-stop.false
 
 pub loop-here-preserved : goal.loop-here-preserved
 loop-here-preserved g c =
     let sheet = g.S.Source.sheet c.args.source.now in
     let h : c.loop-here.count < 32 = few g (goal.at.loop-here-preserved g c).After-next_link-link in
-    let l : 32 ≤ length c.args.codes.now = c.requires.1 in
+    let l : 32 ≤ length c.args.codes.now = c.requires.codes in
     subst (Walked sheet.told c.args.places.now c.args.stop c.args.cells.now c.args.codes.now _ (c.loop-here.count + 1)) (sym c.put_code.ensures)
-    (walked_more sheet c.requires.0 c.loop-here.invariant c.next_link-link.result c.next_link-link.ensures.link c.next_link-link.ensures.accounts c.if-here-stop.false (omega arith))
+    (walked_more sheet c.requires.stopped c.loop-here.invariant c.next_link-link.result c.next_link-link.ensures.link c.next_link-link.ensures.accounts c.if-here-stop.false (omega arith))

@@ -1,11 +1,10 @@
-use Rattle.std.proofs.Common.{⊎_elim, arith}
-use Rattle.std.proofs.lemmas.Bool.{cases_lt}
+use Rattle.std.proofs.Common.{rules}
+use Rattle.loops.proofs.Found.{found_below}
 use Rattle.loops.proofs.steps.find_link.Goals as goal
 
-pub loop-code-preserved : goal.loop-code-preserved
-loop-code-preserved g c =
-    λ l link low account.
-    ⊎_elim
-    (λ below. c.loop-code.invariant l link below account)
-    (λ above. c.in_default.ensures l link (omega arith) account)
-    (cases_lt l.code c.loop-code.code)
+pub returns : goal.returns
+returns g c =
+    let sheet = g.S.Source.sheet c.args.source.now in
+    let runs = c.find_map.ensures.runs in
+    found_below sheet c.args.places.now c.args.stop c.args.here c.args.cells.now _ _ (λ code r q called. search rules)
+    runs.0 runs.1 c.find_map.result runs.2

@@ -7,8 +7,8 @@ pub unreachable-requires : goal.unreachable-requires
 unreachable-requires g c =
     let sheet = g.S.Source.sheet c.args.source.now in
     let p = c.args.places.now in
-    let stopped = c.requires.stopped.0 in
+    let stopped = c.requires.stopped in
     let k = c.args.stop in
     let later = stop_later sheet p stopped.places k c.args.cells.now stopped.chart stopped.inside stopped.beats in
-    let found = next_link sheet p stopped.places k c.args.cells.now stopped.chart c.args.here k later c.requires.stopped.1 stopped.inside c.requires.links in
-    c.in-None.ensures found.0 found.1.link (code_below sheet.told sheet.sound found.0 found.1.link) (next_accounts found.1)
+    let found = next_link sheet p stopped.places k c.args.cells.now stopped.chart c.args.here k later c.requires.here stopped.inside c.requires.links in
+    c.in_default.ensures found.0 found.1.link (code_below sheet.told sheet.sound found.0 found.1.link) (next_accounts found.1)
