@@ -2,50 +2,18 @@
 // along links that account for the entry exactly. The count of links falls with each, so no place is met twice.
 #![tactic(auto)]
 
-ghost use Rattle.std.specs.Prelude.{◌≡◌, ◌<◌, ◌≤◌, length, take, slice_set};
+ghost use Rattle.std.specs.Prelude.{◌≡◌, ◌≤◌, length, take};
 ghost use Rattle.loops.specs.Loops.{LoopWritten, Searched};
 ghost use Rattle.loops.specs.Steps.{Stopped};
 
 mod refusals;
-mod steps;
+mod walk;
 
 use chart::{Places, Stop, work_out};
 use kinds::Counted;
 pub use refusals::{LoopRefusal, TooShort};
 use sheet::Source;
-use steps::next_link;
-
-fn put_code(codes: &mut [u16], count: usize, code: u16)
-    requires { count < length codes.old }
-    ensures { codes.new ≡ slice_set codes.old count code }
-{
-    codes[count] = code;
-}
-
-// Writes the codes of a loop through the place at which the chart stopped, and tells their number.
-fn write_loop<S: Source>(
-    source: &S,
-    places: &Places,
-    cells: &[Counted],
-    stop: usize,
-    codes: &mut [u16],
-) -> usize
-    requires stopped { Stopped (S.Source.sheet source.now).told places.now stop cells.now }
-    requires codes { 32 ≤ length codes.old }
-    ensures { LoopWritten (S.Source.sheet source.now).told codes.old codes.new result }
-{
-    let mut here = stop;
-    let mut count = 0;
-    loop {
-        let link = next_link(source, places, cells, stop, here);
-        put_code(codes, count, link.code);
-        count += 1;
-        here = places.positions[link.to as usize] as usize;
-        if here == stop {
-            return count;
-        }
-    }
-}
+use walk::Walk;
 
 // Writes the codes of a loop of the chart that stands in the first 1,024 entries of a buffer.
 fn write_from_front<S: Source>(
@@ -60,7 +28,16 @@ fn write_from_front<S: Source>(
     requires stopped { Stopped (S.Source.sheet source.now).told places.now stop (take 1024 cells.now) }
     ensures { LoopWritten (S.Source.sheet source.now).told codes.old codes.new result }
 {
-    write_loop(source, places, &cells[..1024], stop, codes)
+    let Some(cells) = cells.first_chunk::<1024>() else {
+        unreachable!()
+    };
+    let walk = Walk {
+        source,
+        places,
+        cells,
+        stop,
+    };
+    walk.write_loop(codes)
 }
 
 // Seeks a loop of the source's sheet that weighs at least 1, and tells how many codes were written. There is one exactly
