@@ -9,12 +9,8 @@ use Rattle.sheet.specs.Sheets.{RuleSheet}
 use Rattle.sheet.specs.Timetables.{Timetable, Lawful}
 use Rattle.sheet.specs.Waits.{IsBound}
 use Rattle.sheet.specs.declared.forms.Link.{Link}
-use Rattle.bound.specs.declared.BoundRefusal.{BoundRefusal}
-use Rattle.bound.specs.declared.BoundRefusal.TheVariants.{TooShort, NoTimetable}
-
-abbrev pub refusal_number : BoundRefusal → ℕ
-refusal_number TooShort = 30
-refusal_number (NoTimetable count) = 14
+use Rattle.loops.specs.declared.refusals.LoopRefusal.{LoopRefusal}
+use Rattle.loops.specs.declared.refusals.LoopRefusal.TheVariants.{TooShort, NoTimetable}
 
 -- The sheet has a lawful timetable at a period, or has none there.
 abbrev pub Works : RuleSheet → ℕ → Type 0
@@ -64,7 +60,7 @@ pub record Refused (s : RuleSheet) (count : ℕ) (before after : Buffers) : Type
   pub loop : LoopWritten (at_period s 999) before.codes after.codes count
 
 -- Some buffer is too short: all are as they were.
-abbrev pub Bounded : RuleSheet → Buffers → Buffers → Result ℕ BoundRefusal → Type 0
+abbrev pub Bounded : RuleSheet → Buffers → Buffers → Result ℕ LoopRefusal → Type 0
 Bounded s before after (Ok bound) = Told s bound before after
 Bounded s before after (Err TooShort) = (Room before → ⊥) × (after ≡ before)
 Bounded s before after (Err (NoTimetable count)) = Refused s count before after

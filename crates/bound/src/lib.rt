@@ -2,65 +2,39 @@
 #![tactic(auto)]
 
 ghost use Rattle.std.specs.Prelude.{◌≡◌, ◌≤◌, true, false, length};
-ghost use Rattle.loops.specs.Loops.{LoopWritten, RestKept};
-ghost use Rattle.chart.specs.Runs.{WorkedOut};
-ghost use Rattle.kinds.specs.Alone.{no_hours, hours_sum, HoursUnder, AloneWithin, link_hours};
-ghost use Rattle.sheet.specs.Layers.{at_period, other_period};
+ghost use Rattle.loops.specs.Loops.{RestKept};
 ghost use Rattle.sheet.specs.Waits.{IsBound};
-ghost use Rattle.bound.specs.Bounds.{refusal_number, Works, Fails, Blocked, Least, Room, Bounded};
+ghost use Rattle.bound.specs.Bounds.{Works, Blocked, Least, Bounded};
 
-use chart::{Places, Stop, work_out};
+use chart::work_out;
 use kinds::{Counted, Hours};
-use loops::{Sought, find_loop};
+pub use loops::LoopRefusal;
+use loops::find_loop;
 use sheet::{OtherPeriod, Source};
 
 // The longest period that a sheet may have.
 const LONGEST: u16 = 999;
 
-// Why there is no bound.
-#[derive(Clone, Copy)]
-pub enum BoundRefusal {
-    // A buffer is too short.
-    TooShort,
-    // There is no lawful timetable at period 999; the codes of so many links of a loop were written.
-    NoTimetable { count: usize },
-}
-
-impl BoundRefusal {
-    pub fn number(self) -> u8
-        ensures { result ≡ refusal_number self }
-    {
-        match self {
-            BoundRefusal::TooShort => 30,
-            BoundRefusal::NoTimetable { .. } => 14,
-        }
-    }
-}
-
-// The working chart at another period.
-fn work_at<S: Source>(source: &S, period: u16, hours: &mut [Hours]) -> Result<Places, Stop>
-    ensures { WorkedOut no_hours hours_sum link_hours HoursUnder AloneWithin (other_period (S.Source.sheet source.now) period).told hours.old hours.new result }
+// Whether there is a lawful timetable at a period.
+fn works_at<S: Source>(source: &S, period: u16, hours: &mut [Hours]) -> bool
+    requires room { 1024 ≤ length hours.old }
+    requires low { 1 ≤ period }
+    requires high { period ≤ 999 }
+    ensures kept { RestKept hours.old hours.new }
+    ensures yes { result ≡ true → Works (S.Source.sheet source.now).told period }
+    ensures no { result ≡ false → Blocked (S.Source.sheet source.now).told period }
 {
     let other = OtherPeriod {
         below: source,
         period,
     };
-    work_out(&other, hours)
-}
-
-// Whether there is a lawful timetable at a period.
-fn works_at<S: Source>(source: &S, period: u16, hours: &mut [Hours]) -> bool
-    requires { (1024 ≤ length hours.old) × ((1 ≤ period) × (period ≤ 999)) }
-    ensures kept { RestKept hours.old hours.new }
-    ensures yes { result ≡ true → Works (S.Source.sheet source.now).told period }
-    ensures no { result ≡ false → Blocked (S.Source.sheet source.now).told period }
-{
-    work_at(source, period, hours).is_ok()
+    work_out(&other, hours).is_ok()
 }
 
 // The least period with a lawful timetable, where there is one at the longest.
 fn least_period<S: Source>(source: &S, hours: &mut [Hours]) -> u16
-    requires { (1024 ≤ length hours.old) × (Works (S.Source.sheet source.now).told 999) }
+    requires room { 1024 ≤ length hours.old }
+    requires works { Works (S.Source.sheet source.now).told 999 }
     ensures kept { RestKept hours.old hours.new }
     ensures bound { IsBound (S.Source.sheet source.now).told result }
     ensures least { Least (S.Source.sheet source.now).told result }
@@ -78,41 +52,6 @@ fn least_period<S: Source>(source: &S, hours: &mut [Hours]) -> u16
     high
 }
 
-// The codes of a loop at the longest period, where there is no lawful timetable.
-fn loop_codes<S: Source>(source: &S, counted: &mut [Counted], codes: &mut [u16]) -> usize
-    requires room { (1024 ≤ length counted.old) × (32 ≤ length codes.old) }
-    requires fails { Fails (S.Source.sheet source.now).told 999 }
-    ensures kept { RestKept counted.old counted.new }
-    ensures codes { LoopWritten (at_period (S.Source.sheet source.now).told 999) codes.old codes.new result }
-{
-    let other = OtherPeriod {
-        below: source,
-        period: LONGEST,
-    };
-    match find_loop(&other, counted, codes) {
-        Sought::Found { count } => count,
-        Sought::TooShort => unreachable(),
-        Sought::NoLoop => unreachable(),
-    }
-}
-
-fn bound_or_loop<S: Source>(
-    source: &S,
-    hours: &mut [Hours],
-    counted: &mut [Counted],
-    codes: &mut [u16],
-) -> Result<u16, BoundRefusal>
-    requires { Room (record { hours = hours.old; counted = counted.old; codes = codes.old }) }
-    ensures { Bounded (S.Source.sheet source.now).told (record { hours = hours.old; counted = counted.old; codes = codes.old }) (record { hours = hours.new; counted = counted.new; codes = codes.new }) result }
-{
-    if works_at(source, LONGEST, hours) {
-        Ok(least_period(source, hours))
-    } else {
-        let count = loop_codes(source, counted, codes);
-        Err(BoundRefusal::NoTimetable { count })
-    }
-}
-
 // The period bound of the source's sheet. Where there is no lawful timetable even at period 999, the codes of a loop of
 // the sheet at that period are written instead. `hours` and `counted` are working charts, whose contents are then free.
 pub fn period_bound<S: Source>(
@@ -120,11 +59,25 @@ pub fn period_bound<S: Source>(
     hours: &mut [Hours],
     counted: &mut [Counted],
     codes: &mut [u16],
-) -> Result<u16, BoundRefusal>
-    ensures { Bounded (S.Source.sheet source.now).told (record { hours = hours.old; counted = counted.old; codes = codes.old }) (record { hours = hours.new; counted = counted.new; codes = codes.new }) result }
+) -> Result<u16, LoopRefusal>
+    ensures { let sheet = (S.Source.sheet source.now).told in
+        Bounded sheet
+        (record { hours = hours.old; counted = counted.old; codes = codes.old })
+        (record { hours = hours.new; counted = counted.new; codes = codes.new })
+        result }
 {
     if hours.len() < 1024 || counted.len() < 1024 || codes.len() < 32 {
-        return Err(BoundRefusal::TooShort);
+        return Err(LoopRefusal::TooShort);
     }
-    bound_or_loop(source, hours, counted, codes)
+    if works_at(source, LONGEST, hours) {
+        return Ok(least_period(source, hours));
+    }
+    let longest = OtherPeriod {
+        below: source,
+        period: LONGEST,
+    };
+    match find_loop(&longest, counted, codes)? {
+        Some(count) => Err(LoopRefusal::NoTimetable { count }),
+        None => unreachable!(),
+    }
 }

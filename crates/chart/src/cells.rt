@@ -7,21 +7,27 @@ ghost use Rattle.chart.specs.Cells.{at, Short, RaisedAt, RowTo, StageTo, ClosedT
 use super::entry::Entry;
 
 pub(crate) fn get<E: Entry>(cells: &[E], row: usize, column: usize) -> E
-    requires { (1024 ≤ length cells.now) × ((row < 32) × (column < 32)) }
+    requires room { 1024 ≤ length cells.now }
+    requires row { row < 32 }
+    requires column { column < 32 }
     ensures { result ≡ at E.neutral cells.now row column }
 {
     cells[32 * row + column]
 }
 
 pub(crate) fn put<E: Entry>(cells: &mut [E], row: usize, column: usize, entry: E)
-    requires { (1024 ≤ length cells.old) × ((row < 32) × (column < 32)) }
+    requires room { 1024 ≤ length cells.old }
+    requires row { row < 32 }
+    requires column { column < 32 }
     ensures { cells.new ≡ slice_set cells.old (32 * row + column) entry }
 {
     cells[32 * row + column] = entry;
 }
 
 pub(crate) fn raise<E: Entry>(cells: &mut [E], row: usize, column: usize, by: E)
-    requires { (1024 ≤ length cells.old) × ((row < 32) × (column < 32)) }
+    requires room { 1024 ≤ length cells.old }
+    requires row { row < 32 }
+    requires column { column < 32 }
     ensures { RaisedAt E.neutral E.under row column by cells.old cells.new }
 {
     if by.beats(cells[32 * row + column]) {
@@ -31,9 +37,14 @@ pub(crate) fn raise<E: Entry>(cells: &mut [E], row: usize, column: usize, by: E)
 
 // Raises a cell by the way over position `by`, of which `to` is the first part.
 pub(crate) fn relax<E: Entry>(cells: &mut [E], row: usize, by: usize, column: usize, to: E)
-    requires room { (1024 ≤ length cells.old) × ((row < 32) × ((by < 32) × (column < 32))) }
-    requires within { (E.within limit to) × (E.within limit (at E.neutral cells.old by column)) }
-    ensures { RaisedAt E.neutral E.under row column (E.sum to (at E.neutral cells.old by column)) cells.old cells.new }
+    requires room { 1024 ≤ length cells.old }
+    requires row { row < 32 }
+    requires by { by < 32 }
+    requires column { column < 32 }
+    requires to_within { E.within limit to }
+    requires on_within { E.within limit (at E.neutral cells.old by column) }
+    ensures { let way = E.sum to (at E.neutral cells.old by column) in
+        RaisedAt E.neutral E.under row column way cells.old cells.new }
 {
     let on = get(cells, by, column);
     raise(cells, row, column, to.plus(on));
@@ -41,8 +52,12 @@ pub(crate) fn relax<E: Entry>(cells: &mut [E], row: usize, by: usize, column: us
 
 // Raises the cells of a row by the way over position `by`.
 pub(crate) fn raise_row<E: Entry>(cells: &mut [E], row: usize, by: usize, count: usize)
-    requires room { (1024 ≤ length cells.old) × ((row < count) × ((by < count) × (count ≤ 32))) }
-    requires within { (E.within limit (at E.neutral cells.old row by)) × ((b : ℕ) → b < count → E.within limit (at E.neutral cells.old by b)) }
+    requires room { 1024 ≤ length cells.old }
+    requires row { row < count }
+    requires by { by < count }
+    requires count { count ≤ 32 }
+    requires to_within { E.within limit (at E.neutral cells.old row by) }
+    requires on_within { (b : ℕ) → b < count → E.within limit (at E.neutral cells.old by b) }
     ensures { RowTo E.neutral E.sum E.under row by count cells.old cells.new }
 {
     let to = get(cells, row, by);
@@ -53,8 +68,11 @@ pub(crate) fn raise_row<E: Entry>(cells: &mut [E], row: usize, by: usize, count:
 
 // Raises every cell by the way over position `by`. Its own entry is neutral, so that its row and its column stay.
 pub(crate) fn stage<E: Entry>(cells: &mut [E], by: usize, count: usize)
-    requires room { (1024 ≤ length cells.old) × ((by < count) × (count ≤ 32)) }
-    requires settled { (at E.neutral cells.old by by ≡ E.neutral) × (Short E.neutral E.within count limit cells.old) }
+    requires room { 1024 ≤ length cells.old }
+    requires by { by < count }
+    requires count { count ≤ 32 }
+    requires settled { at E.neutral cells.old by by ≡ E.neutral }
+    requires short { Short E.neutral E.within count limit cells.old }
     ensures { StageTo E.neutral E.sum E.under by count count cells.old cells.new }
 {
     for a in 0..count {
@@ -64,17 +82,22 @@ pub(crate) fn stage<E: Entry>(cells: &mut [E], by: usize, count: usize)
 
 // Processes position `by`, whose entry to itself does not beat the neutral one.
 pub(crate) fn process<E: Entry>(cells: &mut [E], by: usize, count: usize)
-    requires room { (1024 ≤ length cells.old) × ((by < count) × (count ≤ 32)) }
-    requires neutral_turn { (E.under (at E.neutral cells.old by by) E.neutral) × (E.under E.neutral (at E.neutral cells.old by by)) }
+    requires room { 1024 ≤ length cells.old }
+    requires by { by < count }
+    requires count { count ≤ 32 }
+    requires turn_low { E.under (at E.neutral cells.old by by) E.neutral }
+    requires turn_high { E.under E.neutral (at E.neutral cells.old by by) }
     requires short { Short E.neutral E.within count (2 ^ (by + 1)) cells.old }
-    ensures { (xs : List E) → ClosedTo E.neutral E.sum E.under E.within count by xs cells.old → ClosedTo E.neutral E.sum E.under E.within count (by + 1) xs cells.new }
+    ensures { (xs : List E) → ClosedTo E.neutral E.sum E.under E.within count by xs cells.old
+        → ClosedTo E.neutral E.sum E.under E.within count (by + 1) xs cells.new }
 {
     stage(cells, by, count);
 }
 
 // Whether the entry of a position to itself beats the neutral one.
 pub(crate) fn turns_up<E: Entry>(cells: &[E], position: usize) -> bool
-    requires { (1024 ≤ length cells.now) × (position < 32) }
+    requires room { 1024 ≤ length cells.now }
+    requires position { position < 32 }
     ensures low { result ≡ false → E.under (at E.neutral cells.now position position) E.neutral }
     ensures high { result ≡ true → E.under (at E.neutral cells.now position position) E.neutral → ⊥ }
 {
@@ -84,7 +107,8 @@ pub(crate) fn turns_up<E: Entry>(cells: &[E], position: usize) -> bool
 // Closes the chart position by position. It stops at a position whose entry to itself beats the neutral one, processes
 // neither it nor those after it, and answers it.
 pub(crate) fn close<E: Entry>(cells: &mut [E], count: usize) -> Option<usize>
-    requires room { (1024 ≤ length cells.old) × (count ≤ 32) }
+    requires room { 1024 ≤ length cells.old }
+    requires count { count ≤ 32 }
     requires closed { ClosedTo E.neutral E.sum E.under E.within count 0 cells.old cells.old }
     ensures { Closing E.neutral E.sum E.under E.within count cells.old cells.new result }
 {

@@ -27,7 +27,8 @@ pub trait Entry: Copy {
         ensures { result ≡ value period link.now };
 
     fn plus(self, other: Self) -> Self
-        requires { (within limit self) × (within limit other) }
+        requires self_within { within limit self }
+        requires other_within { within limit other }
         ensures { result ≡ sum self other };
 
     // Whether it ranks higher than the other.

@@ -14,7 +14,8 @@ use sheet::{Link, Source};
 
 // What the link with a code counts for.
 fn entry_with_code<S: Source, E: Entry>(source: &S, code: u16) -> E
-    ensures { (l : Link) → link_of (S.Source.sheet source.now).told code ≡ Some l → result ≡ E.value (S.Source.sheet source.now).told.period l }
+    ensures { let sheet = (S.Source.sheet source.now).told in
+        (l : Link) → link_of sheet code ≡ Some l → result ≡ E.value sheet.period l }
 {
     match link_with_code(source, code) {
         Some(link) => E::of_link(&link, source.period()),
@@ -31,10 +32,14 @@ fn first_entry<S: Source, E: Entry>(
     a: usize,
     b: usize,
 ) -> E
-    requires room { (1024 ≤ length cells.now) × (IsPlaces (S.Source.sheet source.now).told places.now) }
-    requires places_below { (a < places.now.count) × (b < places.now.count) }
-    requires started { StartedTo E.neutral E.sum E.value E.under E.within (S.Source.sheet source.now).told places.now a b cells.now }
-    ensures { Edge E.neutral E.sum E.value E.under E.within (S.Source.sheet source.now).told places.now a b result }
+    requires room { 1024 ≤ length cells.now }
+    requires places { IsPlaces (S.Source.sheet source.now).told places.now }
+    requires from { a < places.now.count }
+    requires to { b < places.now.count }
+    requires started { let sheet = (S.Source.sheet source.now).told in
+        StartedTo E.neutral E.sum E.value E.under E.within sheet places.now a b cells.now }
+    ensures { let sheet = (S.Source.sheet source.now).told in
+        Edge E.neutral E.sum E.value E.under E.within sheet places.now a b result }
 {
     if a == b {
         E::zero()
@@ -50,10 +55,13 @@ fn first_entry<S: Source, E: Entry>(
 }
 
 fn first_row<S: Source, E: Entry>(source: &S, places: &Places, cells: &mut [E], row: usize)
-    requires room { (1024 ≤ length cells.old) × (IsPlaces (S.Source.sheet source.now).told places.now) }
-    requires row_below { row < places.now.count }
-    requires started { StartedTo E.neutral E.sum E.value E.under E.within (S.Source.sheet source.now).told places.now row 0 cells.old }
-    ensures { StartedTo E.neutral E.sum E.value E.under E.within (S.Source.sheet source.now).told places.now (row + 1) 0 cells.new }
+    requires room { 1024 ≤ length cells.old }
+    requires places { IsPlaces (S.Source.sheet source.now).told places.now }
+    requires row { row < places.now.count }
+    requires started { let sheet = (S.Source.sheet source.now).told in
+        StartedTo E.neutral E.sum E.value E.under E.within sheet places.now row 0 cells.old }
+    ensures { let sheet = (S.Source.sheet source.now).told in
+        StartedTo E.neutral E.sum E.value E.under E.within sheet places.now (row + 1) 0 cells.new }
 {
     for b in 0..places.count {
         let entry = first_entry(source, places, cells, row, b);
@@ -63,8 +71,10 @@ fn first_row<S: Source, E: Entry>(source: &S, places: &Places, cells: &mut [E], 
 
 // Writes an entry for every pair of positions.
 fn start<S: Source, E: Entry>(source: &S, places: &Places, cells: &mut [E])
-    requires { (1024 ≤ length cells.old) × (IsPlaces (S.Source.sheet source.now).told places.now) }
-    ensures { FilledTo E.neutral E.sum E.value E.under E.within (S.Source.sheet source.now).told places.now 0 cells.new }
+    requires room { 1024 ≤ length cells.old }
+    requires places { IsPlaces (S.Source.sheet source.now).told places.now }
+    ensures { let sheet = (S.Source.sheet source.now).told in
+        FilledTo E.neutral E.sum E.value E.under E.within sheet places.now 0 cells.new }
 {
     for row in 0..places.count {
         first_row(source, places, cells, row);
@@ -73,9 +83,14 @@ fn start<S: Source, E: Entry>(source: &S, places: &Places, cells: &mut [E])
 
 // Raises the entry between a link's ends.
 fn raise_between<E: Entry>(places: &Places, cells: &mut [E], link: &Link, by: E)
-    requires room { (1024 ≤ length cells.old) × ((link.now.from < 32) × (link.now.to < 32)) }
-    requires positions { (position places.now link.now.from < 32) × (position places.now link.now.to < 32) }
-    ensures { RaisedAt E.neutral E.under (position places.now link.now.from) (position places.now link.now.to) by cells.old cells.new }
+    requires room { 1024 ≤ length cells.old }
+    requires from { link.now.from < 32 }
+    requires to { link.now.to < 32 }
+    requires row { position places.now link.now.from < 32 }
+    requires column { position places.now link.now.to < 32 }
+    ensures { let row = position places.now link.now.from in
+        let column = position places.now link.now.to in
+        RaisedAt E.neutral E.under row column by cells.old cells.new }
 {
     let from = places.positions[link.from as usize] as usize;
     let to = places.positions[link.to as usize] as usize;
@@ -84,9 +99,12 @@ fn raise_between<E: Entry>(places: &Places, cells: &mut [E], link: &Link, by: E)
 
 // Raises the entry of the link with a code, if there is one.
 fn raise_link<S: Source, E: Entry>(source: &S, places: &Places, cells: &mut [E], code: u16)
-    requires room { (1024 ≤ length cells.old) × (IsPlaces (S.Source.sheet source.now).told places.now) }
-    requires filled { FilledTo E.neutral E.sum E.value E.under E.within (S.Source.sheet source.now).told places.now code cells.old }
-    ensures { FilledTo E.neutral E.sum E.value E.under E.within (S.Source.sheet source.now).told places.now (code + 1) cells.new }
+    requires room { 1024 ≤ length cells.old }
+    requires places { IsPlaces (S.Source.sheet source.now).told places.now }
+    requires filled { let sheet = (S.Source.sheet source.now).told in
+        FilledTo E.neutral E.sum E.value E.under E.within sheet places.now code cells.old }
+    ensures { let sheet = (S.Source.sheet source.now).told in
+        FilledTo E.neutral E.sum E.value E.under E.within sheet places.now (code + 1) cells.new }
 {
     if let Some(link) = link_with_code(source, code) {
         let by = E::of_link(&link, source.period());
@@ -96,8 +114,10 @@ fn raise_link<S: Source, E: Entry>(source: &S, places: &Places, cells: &mut [E],
 
 // Fills the chart: every pair of positions has an entry, and every link is under its own.
 pub(crate) fn fill<S: Source, E: Entry>(source: &S, places: &Places, cells: &mut [E])
-    requires { (1024 ≤ length cells.old) × (IsPlaces (S.Source.sheet source.now).told places.now) }
-    ensures { FilledTo E.neutral E.sum E.value E.under E.within (S.Source.sheet source.now).told places.now 432 cells.new }
+    requires room { 1024 ≤ length cells.old }
+    requires places { IsPlaces (S.Source.sheet source.now).told places.now }
+    ensures { let sheet = (S.Source.sheet source.now).told in
+        FilledTo E.neutral E.sum E.value E.under E.within sheet places.now 432 cells.new }
 {
     start(source, places, cells);
     for code in 0..CODES {

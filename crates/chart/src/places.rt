@@ -7,7 +7,7 @@ use sheet::Source;
 
 // The present places of a sheet: `list[a]` is the place at position a, for a below `count`, and `positions[v]` is the
 // position of place v. Place 0 comes first, then the steps by rising number.
-#[derive(Clone, Copy)]
+#[derive(Clone, Copy, Debug, PartialEq, Eq)]
 pub struct Places {
     pub count: usize,
     pub list: [u8; 32],
@@ -15,7 +15,7 @@ pub struct Places {
 }
 
 // Why a working chart is not closed.
-#[derive(Clone, Copy)]
+#[derive(Clone, Copy, Debug, PartialEq, Eq)]
 pub enum Stop {
     // The buffer has too few entries.
     Short,

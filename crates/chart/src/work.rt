@@ -10,7 +10,8 @@ use sheet::Source;
 
 fn fill_and_close<S: Source, E: Entry>(source: &S, cells: &mut [E]) -> Result<Places, Stop>
     requires { 1024 ≤ length cells.old }
-    ensures { Answered E.neutral E.sum E.value E.under E.within (S.Source.sheet source.now).told cells.new result }
+    ensures { let sheet = (S.Source.sheet source.now).told in
+        Answered E.neutral E.sum E.value E.under E.within sheet cells.new result }
 {
     let places = Places::of(source);
     fill(source, &places, cells);
@@ -23,7 +24,8 @@ fn fill_and_close<S: Source, E: Entry>(source: &S, cells: &mut [E]) -> Result<Pl
 // Works in the first 1,024 entries of a buffer.
 fn use_front<S: Source, E: Entry>(source: &S, cells: &mut [E]) -> Result<Places, Stop>
     requires { 1024 ≤ length cells.old }
-    ensures { WorkedOut E.neutral E.sum E.value E.under E.within (S.Source.sheet source.now).told cells.old cells.new result }
+    ensures { let sheet = (S.Source.sheet source.now).told in
+        WorkedOut E.neutral E.sum E.value E.under E.within sheet cells.old cells.new result }
 {
     fill_and_close(source, &mut cells[..1024])
 }
@@ -37,7 +39,9 @@ pub struct Chart<'a, E> {
 impl<'a, E: Entry> Chart<'a, E> {
     // Fills the chart from the source and closes it. A buffer of fewer than 1,024 entries is refused and left as it was.
     pub fn work_out<S: Source>(&mut self, source: &S) -> Result<Places, Stop>
-        ensures answer { WorkedOut E.neutral E.sum E.value E.under E.within (S.Source.sheet source.now).told self.old.cells.now self.new.cells.now result }
+        ensures answer { let sheet = (S.Source.sheet source.now).told in
+            WorkedOut E.neutral E.sum E.value E.under E.within sheet self.old.cells.now
+            self.new.cells.now result }
         ensures len { length self.new.cells.now ≡ length self.old.cells.now }
         ensures same { self.new.cells.ghost_name ≡ self.old.cells.ghost_name }
     {
@@ -50,7 +54,8 @@ impl<'a, E: Entry> Chart<'a, E> {
 
 // The working chart of any source, of any kind of entry, in the buffer `cells`.
 pub fn work_out<S: Source, E: Entry>(source: &S, cells: &mut [E]) -> Result<Places, Stop>
-    ensures { WorkedOut E.neutral E.sum E.value E.under E.within (S.Source.sheet source.now).told cells.old cells.new result }
+    ensures { let sheet = (S.Source.sheet source.now).told in
+        WorkedOut E.neutral E.sum E.value E.under E.within sheet cells.old cells.new result }
 {
     let mut chart = Chart { cells };
     chart.work_out(source)

@@ -11,7 +11,7 @@ ghost use Rattle.kinds.specs.Alone.{
 use chart::Entry;
 use sheet::Link;
 
-#[derive(Clone, Copy)]
+#[derive(Clone, Copy, Debug, PartialEq, Eq, PartialOrd, Ord)]
 pub struct Hours {
     pub hours: i64,
 }
@@ -46,6 +46,6 @@ impl Entry for Hours {
     }
 
     fn beats(self, other: Hours) -> bool {
-        self.hours > other.hours
+        self > other
     }
 }

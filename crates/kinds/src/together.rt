@@ -10,9 +10,10 @@ ghost use Rattle.kinds.specs.Together.{
 
 use chart::Entry;
 use sheet::Link;
+use std::cmp::Reverse;
 
 // More hours rank higher, and at equal hours fewer links do.
-#[derive(Clone, Copy)]
+#[derive(Clone, Copy, Debug, PartialEq, Eq)]
 pub struct Counted {
     pub hours: i64,
     pub links: u64,
@@ -50,6 +51,6 @@ impl Entry for Counted {
     }
 
     fn beats(self, other: Counted) -> bool {
-        self.hours > other.hours || self.hours == other.hours && self.links < other.links
+        (self.hours, Reverse(self.links)) > (other.hours, Reverse(other.links))
     }
 }

@@ -18,9 +18,11 @@ module _ (s : RuleSheet) (xs ys : List Counted) (stop : Stop) (p : Places) (k : 
   pub stopped_kept : RestKept xs ys
   stopped_kept = beaten.rest
 
-  pub stopped_front : 1024 ≤ length ys → Stopped s p k (take 1024 ys)
-  stopped_front room =
+  pub stopped_front : length ys ≡ length xs → Stopped s p k (take 1024 ys)
+  stopped_front same =
       let chart = beaten.chart in
+      let long = beaten.room in
+      let room : 1024 ≤ length ys = omega arith in
       record {
         room = subst (λ n. 1024 ≤ n) (sym (length-take-le 1024 ys room)) (omega arith);
         places = chart.places;

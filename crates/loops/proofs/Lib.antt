@@ -1,2 +1,4 @@
+pub mod Found
 pub mod Fronts
+pub mod Searching
 pub mod Walked

@@ -1,11 +1,17 @@
 -- The loop that leaves a sheet without a lawful timetable. Assumes nothing.
-use Rattle.std.specs.Prelude.{◌≡◌, ℕ, ◌<◌, ◌⊎◌, List, ◌++◌, map, length, drop, pos, ◌≤ℤ◌}
+use Rattle.std.specs.Prelude.{◌≡◌, ℕ, ◌<◌, ◌⊎◌, List, ◌++◌, map, length, drop, pos, ◌≤ℤ◌, Some, None, Option, Ok, Err, Result}
 use Rattle.sheet.specs.Links.{Loop, run_weight}
 use Rattle.sheet.specs.Sheets.{RuleSheet}
 use Rattle.sheet.specs.Timetables.{Timetable, Lawful}
 use Rattle.sheet.specs.declared.forms.Link.{Link}
-use Rattle.loops.specs.declared.Sought.{Sought}
-use Rattle.loops.specs.declared.Sought.TheVariants.{TooShort, NoLoop, Found}
+use Rattle.loops.specs.declared.refusals.LoopRefusal.{LoopRefusal}
+use Rattle.loops.specs.declared.refusals.LoopRefusal.TheVariants.{TooShort, NoTimetable}
+use Rattle.loops.specs.declared.refusals.TooShort.{TooShort as ShortBuffer}
+
+-- The number of a refusal: 30 for a buffer that is too short, 14 for a loop.
+abbrev pub refusal_number : LoopRefusal → ℕ
+refusal_number TooShort = 30
+refusal_number (NoTimetable count) = 14
 
 abbrev pub codes_of : List Link → List ℕ
 codes_of links = map (λ l. l.code) links
@@ -23,9 +29,13 @@ pub record LoopWritten (s : RuleSheet) (before after : List ℕ) (count : ℕ) :
 abbrev pub RestKept : {E : Type 0} → List E → List E → Type 0
 RestKept before after = drop 1024 after ≡ drop 1024 before
 
--- The answer to a search for such a loop. One is found exactly if the sheet has no lawful timetable. Without one the
--- buffer for codes stays as it was, and buffers that are too short are all left as they were.
-abbrev pub Searched : {E : Type 0} → RuleSheet → List E → List E → List ℕ → List ℕ → Sought → Type 0
-Searched s cells cells_after codes codes_after TooShort = ((length cells < 1024) ⊎ (length codes < 32)) × (cells_after ≡ cells) × (codes_after ≡ codes)
-Searched s cells cells_after codes codes_after NoLoop = ∥ ((t : Timetable) × Lawful s t) ∥₁ × RestKept cells cells_after × (codes_after ≡ codes)
-Searched s cells cells_after codes codes_after (Found count) = RestKept cells cells_after × LoopWritten s codes codes_after count
+-- The answer to a search for such a loop: how many codes were written. One is found exactly if the sheet has no lawful
+-- timetable. Without one the buffer for codes stays as it was, and buffers that are too short are all left as they were.
+abbrev pub Searched : {E : Type 0} → RuleSheet → List E → List E → List ℕ → List ℕ
+    → Result (Option ℕ) ShortBuffer → Type 0
+Searched s cells cells_after codes codes_after (Err short) =
+    ((length cells < 1024) ⊎ (length codes < 32)) × (cells_after ≡ cells) × (codes_after ≡ codes)
+Searched s cells cells_after codes codes_after (Ok None) =
+    ∥ ((t : Timetable) × Lawful s t) ∥₁ × RestKept cells cells_after × (codes_after ≡ codes)
+Searched s cells cells_after codes codes_after (Ok (Some count)) =
+    RestKept cells cells_after × LoopWritten s codes codes_after count

@@ -10,12 +10,8 @@ use Rattle.loops.specs.Loops.{LoopWritten, RestKept}
 use Rattle.sheet.specs.Sheets.{RuleSheet}
 use Rattle.sheet.specs.Timetables.{Timetable, Lawful}
 use Rattle.sheet.specs.Waits.{IsChart}
-use Rattle.waits.specs.declared.ChartRefusal.{ChartRefusal}
-use Rattle.waits.specs.declared.ChartRefusal.TheVariants.{TooShort, NoTimetable}
-
-abbrev pub refusal_number : ChartRefusal → ℕ
-refusal_number TooShort = 30
-refusal_number (NoTimetable count) = 14
+use Rattle.loops.specs.declared.refusals.LoopRefusal.{LoopRefusal}
+use Rattle.loops.specs.declared.refusals.LoopRefusal.TheVariants.{TooShort, NoTimetable}
 
 -- a working chart of hours in which every position is processed
 pub record Finished (s : RuleSheet) (p : Places) (cells : List Hours) : Type 0 where
@@ -59,7 +55,7 @@ pub record Refused (s : RuleSheet) (count : ℕ) (before after : Buffers) : Type
   pub chart : after.chart ≡ before.chart
 
 -- Some buffer is too short: all are as they were.
-abbrev pub Charted : RuleSheet → Buffers → Buffers → Result (Unit {0}) ChartRefusal → Type 0
+abbrev pub Charted : RuleSheet → Buffers → Buffers → Result (Unit {0}) LoopRefusal → Type 0
 Charted s before after (Ok done) = Given s before after
 Charted s before after (Err TooShort) = (Room before → ⊥) × (after ≡ before)
 Charted s before after (Err (NoTimetable count)) = Refused s count before after
@@ -79,7 +75,7 @@ pub record RefusedPlainly (s : RuleSheet) (count : ℕ) (hours hours_after : Lis
   pub kept : chart_after ≡ chart
 
 -- The answer to a call for the wait chart that looks for no loop.
-abbrev pub PlainlyCharted : RuleSheet → List Hours → List Hours → List ℤ → List ℤ → Result (Unit {0}) ChartRefusal → Type 0
+abbrev pub PlainlyCharted : RuleSheet → List Hours → List Hours → List ℤ → List ℤ → Result (Unit {0}) LoopRefusal → Type 0
 PlainlyCharted s hours hours_after chart chart_after (Ok done) = GivenPlainly s hours hours_after chart chart_after
 PlainlyCharted s hours hours_after chart chart_after (Err TooShort) =
     ((1024 ≤ length hours) × (1024 ≤ length chart) → ⊥) × (hours_after ≡ hours) × (chart_after ≡ chart)

@@ -6,15 +6,15 @@ pub stage-requires : goal.stage-requires
 stage-requires g c =
     let m = g.E.Entry in
     record {
-      room = (omega arith, (omega arith, omega arith));
-      settled = (
-        m.laws.antisymmetric _ _ c.requires.neutral_turn.0 c.requires.neutral_turn.1,
-        short_limit m.laws c.args.count c.args.by _ (omega arith) c.requires.short,
-      );
+      room = c.requires.room;
+      by = c.requires.by;
+      count = c.requires.count;
+      settled = m.laws.antisymmetric _ _ c.requires.turn_low c.requires.turn_high;
+      short = short_limit m.laws c.args.count c.args.by _ (omega arith) c.requires.short;
     }
 
 pub returns : goal.returns
 returns g c =
     let m = g.E.Entry in
     λ xs done. closed_more m.laws c.args.count c.args.by xs c.args.cells.now _ (omega arith)
-    (m.laws.antisymmetric _ _ c.requires.neutral_turn.0 c.requires.neutral_turn.1) c.stage.ensures done
+    (m.laws.antisymmetric _ _ c.requires.turn_low c.requires.turn_high) c.stage.ensures done

@@ -6,7 +6,7 @@ use Rattle.chart.proofs.cells.raise.Goals as goal
 pub returns-then-beats : goal.returns-then-beats
 returns-then-beats g c =
     cell_raised g.E.Entry.laws _ c.args.row c.args.column c.args.by c.index-cells-row.result
-    (omega arith) c.requires.1.1 c.index-cells-row.is
+    (omega arith) c.requires.column c.index-cells-row.is
     (λ low. true≢false (sym c.if-beats.true ∙ c.beats.ensures.high low))
 
 pub returns-else-beats : goal.returns-else-beats

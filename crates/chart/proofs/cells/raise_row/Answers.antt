@@ -1,5 +1,4 @@
-use Rattle.std.proofs.Common.{sym, subst, arith}
-use Rattle.chart.specs.Laws.{limit}
+use Rattle.std.proofs.Common.{arith}
 use Rattle.chart.proofs.Raising.{row_more}
 use Rattle.chart.proofs.cells.raise_row.Goals as goal
 
@@ -8,11 +7,12 @@ relax-requires g c =
     let m = g.E.Entry in
     let still = c.loop-b.invariant.rest c.args.by c.loop-b.b (omega arith) (λ e h. omega arith) in
     record {
-      room = (omega arith, (omega arith, (omega arith, omega arith)));
-      within = (
-        subst (m.within limit) (sym c.get-to.ensures) c.requires.within.0,
-        subst (m.within limit) (sym still) (c.requires.within.1 c.loop-b.b (omega arith)),
-      );
+      room = omega arith;
+      row = omega arith;
+      by = omega arith;
+      column = omega arith;
+      to_within = rw c.get-to.ensures c.requires.to_within;
+      on_within = rw still (c.requires.on_within c.loop-b.b (omega arith));
     }
 
 pub loop-b-preserved : goal.loop-b-preserved

@@ -8,7 +8,8 @@ close-requires g c =
     let sheet = g.S.Source.sheet c.args.source.now in
     let is = c.of-places.ensures in
     record {
-      room = (omega arith, is.few);
+      room = omega arith;
+      count = is.few;
       closed = filled_closed g.E.Entry.laws sheet c.of-places.result is _ c.fill.ensures;
     }
 

@@ -1,6 +1,5 @@
-use Rattle.std.proofs.Common.{◌≡◌, ◌+◌, is_some, sym, ap, ◌∙◌, subst, arith}
+use Rattle.std.proofs.Common.{◌≡◌, is_some, sym, ap, ◌∙◌, arith}
 use Rattle.sheet.specs.Sheets.{present}
-use Rattle.chart.specs.Positions.{PlacesTo}
 use Rattle.chart.proofs.Collecting.{step_there, places_skip, places_more}
 use Rattle.chart.proofs.places.Places.of.Goals as goal
 use Rattle.chart.proofs.places.Places.of.Goals.{then-is_some, else-is_some}
@@ -13,9 +12,9 @@ loop-v-preserved g c =
     = step_there s v (omega arith) ∙ ap is_some (sym c.step.ensures) ∙ sym c.is_some.ensures in
     elim c.if-is_some.branch [
       | then-is_some w ↦
-          subst (PlacesTo s (c.loop-v.v + 1)) (sym w.places-is)
+          rw w.places-is
           (places_more s v c.loop-v.places c.loop-v.invariant (omega arith) (is ∙ w.if-is_some.true))
       | else-is_some w ↦
-          subst (PlacesTo s (c.loop-v.v + 1)) (sym w.places-is)
+          rw w.places-is
           (places_skip s v c.loop-v.places c.loop-v.invariant (is ∙ w.if-is_some.false))
     ]

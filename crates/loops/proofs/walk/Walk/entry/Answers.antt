@@ -1,7 +1,7 @@
 use Rattle.std.proofs.Common.{refl}
 use Rattle.chart.specs.Cells.{at}
-use Rattle.loops.proofs.steps.cell.Goals as goal
+use Rattle.loops.proofs.walk.Walk.entry.Goals as goal
 
 pub returns : goal.returns
 unfolding at
-returns c = refl
+returns g c = refl

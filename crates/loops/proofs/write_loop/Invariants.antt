@@ -1,8 +1,0 @@
-use Rattle.loops.proofs.Walked.{left, Walked}
-use Rattle.loops.proofs.write_loop.Given as goal
-
-abbrev pub invariant-loop-here : goal.invariant-loop-here
-invariant-loop-here g l = Walked (g.S.Source.sheet l.source).told l.places l.stop l.cells l.initial.codes l.here l.count l.codes
-
-abbrev pub decreases-loop-here : goal.decreases-loop-here
-decreases-loop-here g l = left l.stop l.cells l.here
