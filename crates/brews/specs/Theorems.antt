@@ -1,5 +1,5 @@
 -- What is proved of vessels over all brews. Assumes nothing.
-use Rattle.std.specs.Prelude.{ℕ, List, ℤ}
+use Rattle.std.specs.Prelude.{ℕ, List, ℤ, Option}
 use Rattle.brews.specs.Brews.{HeldOnce, InPeriod}
 use Rattle.choose.specs.Choosing.{HourRule}
 use Rattle.sheet.specs.Limits.{Sound}
@@ -14,17 +14,17 @@ use Rattle.windows.specs.Placing.{starts, Filled}
 -- brews. None of the steps that a chooser's rule fills in on a sound sheet takes longer; so no plan has a vessel held
 -- twice. And where the sheet has a wait chart, the starts of those steps are a lawful timetable.
 pub record VesselsHeldOnce : Type 0 where
-  pub numbered : (period : ℕ) (stock : List ℕ) (placed : List Placed) (numbers : List ℕ)
+  pub numbered : (period : ℕ) (stock : List ℕ) (placed : List (Option Placed)) (numbers : List ℕ)
       → InPeriod period placed
       → AllNumbered period stock placed numbers
       → HeldOnce period placed numbers
-  pub filled : (s : RuleSheet) → Sound s → (rule : HourRule) (placed : List Placed)
+  pub filled : (s : RuleSheet) → Sound s → (rule : HourRule) (placed : List (Option Placed))
       → Filled s rule placed
       → InPeriod s.period placed
-  pub planned : (s : RuleSheet) → Sound s → (rule : HourRule) (stock : List ℕ) (placed : List Placed) (numbers : List ℕ)
+  pub planned : (s : RuleSheet) → Sound s → (rule : HourRule) (stock : List ℕ) (placed : List (Option Placed)) (numbers : List ℕ)
       → Filled s rule placed
       → AllNumbered s.period stock placed numbers
       → HeldOnce s.period placed numbers
-  pub lawful : (s : RuleSheet) → Sound s → (chart : List ℤ) → IsChart s chart → (rule : HourRule) (placed : List Placed)
+  pub lawful : (s : RuleSheet) → Sound s → (chart : List ℤ) → IsChart s chart → (rule : HourRule) (placed : List (Option Placed))
       → Filled s rule placed
       → Lawful s (starts placed)

@@ -1,3 +1,4 @@
+pub mod Backwards
 pub mod Calm
 pub mod Rounds
 pub mod Whole

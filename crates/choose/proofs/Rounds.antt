@@ -1,7 +1,10 @@
 -- Counts of classes, and the peaks of hours. Assumes nothing.
-use Rattle.std.proofs.Common.{◌≡◌, ℕ, zero, suc, ◌+◌, ◌-◌, ◌*◌, ◌%◌, ◌<◌, ◌≤◌, max, List, [], ◌∷◌, length, get_or, sym, refl, ap, ◌∙◌, ⊎_elim, le_refl, mod-lt, mod-eq_of_lt, add-one, arith}
+use Rattle.std.proofs.Common.{◌≡◌, ℕ, zero, suc, ◌+◌, ◌-◌, ◌*◌, ◌%◌, ◌<◌, ◌≤◌, max, List, [], ◌∷◌, ◌++◌, length, map, get_or, unwrap_or, sym, refl, ap, ◌∙◌, ⊎_elim, le_refl, mod-lt, mod-eq_of_lt, add-one, arith}
 use native.Mathlib.Nat.{mod-eq-sub-mod, mod-add-mod, add-mod-mod}
+use Rattle.std.specs.List.{range_with_len, reduce}
 use Rattle.std.proofs.lemmas.Bool.{cases_lt}
+use Rattle.std.proofs.lemmas.List.FromFn.{map-range_with_len_more}
+use Rattle.std.proofs.lemmas.List.Sums.{fold-append}
 use Rattle.choose.specs.Classes.{class, crowd_at, peak}
 
 -- within the first round an hour is its own class
@@ -13,9 +16,20 @@ class_round period hour past within =
     let less : hour - period < period = omega arith in
     class_within period (hour - period) less ∙ sym (mod-eq-sub-mod past)
 
--- one class more
-pub peak_more : (crowd : List ℕ) (n hour : ℕ) → peak crowd (n + 1) hour ≡ max (peak crowd n hour) (crowd_at crowd (hour + n))
-peak_more crowd n hour = ap (λ m. peak crowd m hour) (add-one n)
+largest_more : (counts : List ℕ) (more : ℕ) → unwrap_or (reduce max (counts ++ more ∷ [])) 0 ≡ max (unwrap_or (reduce max counts) 0) more
+largest_more [] more = omega arith
+largest_more (count ∷ counts) more = fold-append max count counts (more ∷ [])
+
+-- the peak is the largest of the counts of the classes in a row
+pub largest_is_peak : (crowd : List ℕ) (n hour : ℕ) → unwrap_or (reduce max (map (λ k. crowd_at crowd (hour + k)) (range_with_len 0 n))) 0 ≡ peak crowd n hour
+largest_is_peak crowd zero hour = refl
+largest_is_peak crowd (suc n) hour =
+    let count : ℕ → ℕ = λ k. crowd_at crowd (hour + k) in
+    let last : 0 + n ≡ n = omega arith in
+    ap (λ m. unwrap_or (reduce max (map count (range_with_len 0 m))) 0) (sym (add-one n))
+    ∙ ap (λ counts. unwrap_or (reduce max counts) 0) (map-range_with_len_more count 0 n n last)
+    ∙ largest_more (map count (range_with_len 0 n)) (count n)
+    ∙ ap (λ p. max p (count n)) (largest_is_peak crowd n hour)
 
 -- the peak of an hour is that of its class
 pub peak_class : (crowd : List ℕ) (n hour : ℕ) → peak crowd n (hour % length crowd) ≡ peak crowd n hour

@@ -1,5 +1,5 @@
 -- The least crowded hour. Assumes nothing.
-use Rattle.std.specs.Prelude.{◌≡◌, ℕ, zero, suc, ◌+◌, ◌-◌, ◌<◌, ◌≤◌, max, cond, nat_lt}
+use Rattle.std.specs.Prelude.{◌≡◌, ℕ, zero, suc, ◌+◌, ◌-◌, ◌<◌, ◌≤◌, max, nat_lt, if◌then◌else◌}
 use Rattle.choose.specs.Classes.{peak}
 use Rattle.choose.specs.Views.{View}
 
@@ -26,7 +26,7 @@ pub record Exactly (says : ℕ → Type 0) (hour : ℕ) : Type 0 where
 
 -- of two hours the second only if its peak is smaller
 abbrev pub calmer : (ℕ → ℕ) → ℕ → ℕ → ℕ
-calmer peaks held hour = cond (nat_lt (peaks hour) (peaks held)) hour held
+calmer peaks held hour = if nat_lt (peaks hour) (peaks held) then hour else held
 
 -- the calmest of an hour and so many that follow it
 unfoldable pub calmest : (ℕ → ℕ) → ℕ → ℕ → ℕ

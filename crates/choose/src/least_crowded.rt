@@ -40,7 +40,9 @@ fn calmest(crowd: &[u8], duration: usize, first: usize, end: usize) -> usize
 // How many hours of the window are looked at: hours that lie a period apart cover the same classes, so one round of
 // classes tells the whole window.
 fn hours_of(shown: Shown<'_>) -> usize
-    ensures { result ≡ min (max shown.entry.first shown.entry.last - shown.entry.first + 1) (length shown.entry.crowd.now) }
+    ensures { result ≡ min
+        (max shown.entry.first shown.entry.last - shown.entry.first + 1)
+        (length shown.entry.crowd.now) }
 {
     let last = shown.last.max(shown.first);
     ((last - shown.first) as usize + 1).min(shown.crowd.len())

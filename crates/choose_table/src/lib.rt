@@ -68,27 +68,32 @@ mod choosers {
 #[cfg(test)]
 mod giving {
     use std::process::Abort;
-    use vessels::{ABSENT, Placed, Refusal, give_out};
+    use vessels::{Placed, Refusal, give_out, hours_until};
 
     // The first four steps with their start hours, the period, the stock of kind 1, and the numbers of these steps or
     // the step that finds no vessel. There is one vessel of each other kind, and the other steps are absent.
     #[derive(Clone, Copy)]
     struct Row {
-        steps: [Placed; 4],
+        steps: [Option<Placed>; 4],
         period: u16,
         stock: u8,
         numbers: Result<[u8; 4], u8>,
     }
 
-    fn placed(start: u16, duration: u16, kind: u8) -> Placed {
-        Placed {
+    fn placed(start: u16, duration: u16, kind: u8) -> Option<Placed> {
+        Some(Placed {
             start,
             duration,
             kind,
-        }
+        })
     }
 
-    fn given(steps: [Placed; 4], period: u16, stock: u8, numbers: Result<[u8; 4], u8>) -> Row {
+    fn given(
+        steps: [Option<Placed>; 4],
+        period: u16,
+        stock: u8,
+        numbers: Result<[u8; 4], u8>,
+    ) -> Row {
         Row {
             steps,
             period,
@@ -98,7 +103,7 @@ mod giving {
     }
 
     fn holds(rt: &impl Abort, row: &Row) {
-        let mut steps = [placed(ABSENT, 0, 0); 31];
+        let mut steps = [None; 31];
         steps[0..4].copy_from_slice(&row.steps);
         let stock = [1, row.stock, 1, 1, 1, 1, 1, 1];
         let mut buffer = [0xEE; 33];
@@ -123,7 +128,6 @@ mod giving {
 
     #[test]
     fn table(rt: HostRuntime) {
-        let none = placed(ABSENT, 6, 1);
         let mash = placed(0, 6, 0);
         // At 24 hours this covers the classes 6 to 23, 0 and 1.
         let ferment = placed(6, 20, 1);
@@ -133,7 +137,7 @@ mod giving {
         let middle = placed(28, 6, 1);
         let late = placed(8, 4, 1);
         let rows = [
-            given([none, none, none, none], 24, 1, Ok([0, 0, 0, 0])),
+            given([None, None, None, None], 24, 1, Ok([0, 0, 0, 0])),
             given([mash, ferment, crop, early], 24, 2, Ok([1, 1, 1, 2])),
             given([mash, ferment, crop, early], 24, 1, Err(4)),
             // Without classes nothing is shared.
@@ -151,14 +155,30 @@ mod giving {
                 Ok([1, 1, 1, 1]),
             ),
             given([mash, ferment, crop, placed(2, 4, 8)], 24, 1, Err(4)),
-            given([early, middle, late, none], 24, 2, Ok([1, 2, 1, 0])),
-            given([early, middle, late, none], 24, 1, Err(2)),
-            given([none, none, early, late], 24, 0, Err(3)),
+            given([early, middle, late, None], 24, 2, Ok([1, 2, 1, 0])),
+            given([early, middle, late, None], 24, 1, Err(2)),
+            given([None, None, early, late], 24, 0, Err(3)),
+            // 65,535 is a start as any other, of class 15.
+            given(
+                [placed(65_535, 1, 1), placed(15, 1, 1), None, None],
+                24,
+                1,
+                Err(2),
+            ),
         ];
         for row in &rows {
             holds(&rt, row);
         }
         assert_eq!(rt; Refusal::TooShort.number(), 30);
         assert_eq!(rt; Refusal::NoVessel(4).number(), 40);
+    }
+
+    #[test]
+    fn hours(rt: HostRuntime) {
+        assert_eq!(rt; hours_until(6, 8, 24), 2);
+        assert_eq!(rt; hours_until(8, 6, 24), 22);
+        assert_eq!(rt; hours_until(30, 54, 24), 0);
+        assert_eq!(rt; hours_until(65_535, 0, 24), 9);
+        assert_eq!(rt; hours_until(8, 6, 0), 0);
     }
 }

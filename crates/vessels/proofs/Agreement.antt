@@ -1,9 +1,13 @@
 -- Vessel numbers that agree on lower-numbered steps. Assumes nothing.
-use Rattle.std.proofs.Common.{◌≡◌, ℕ, zero, suc, ◌+◌, ◌<◌, List, length, get_or, set, sym, ◌∙◌, subst, ⊎_elim, arith, below_more}
+use Rattle.std.proofs.Common.{◌≡◌, ℕ, zero, suc, ◌+◌, ◌<◌, List, length, get_or, set, Some, None, Option, ◌⊎◌, inl, inr, sym, refl, ◌∙◌, subst, ⊎_elim, arith, below_more}
 use Rattle.std.proofs.lemmas.List.{get_or-set_same, get_or-set_other}
-use Rattle.std.proofs.lemmas.Bool.{cases_lt, cases_eq, cases_order}
+use Rattle.std.proofs.lemmas.Bool.{cases_lt, cases_order}
 use Rattle.vessels.specs.Vessels.{at, Taken, Gets, Due, Numbered, stock_for}
 use Rattle.vessels.specs.declared.placed.Placed.{Placed}
+
+pub there_or_not : (o : Option Placed) → (o ≡ None) ⊎ ((step : Placed) × (o ≡ Some step))
+there_or_not None = inl refl
+there_or_not (Some step) = inr (step, refl)
 
 -- Two lists of numbers agree on the steps before a place.
 abbrev pub Agree : ℕ → List ℕ → List ℕ → Type 0
@@ -16,26 +20,28 @@ agree_turned place a b same i below = sym (same i below)
 written_below : (numbers : List ℕ) (place vessel : ℕ) → Agree place numbers (set numbers place vessel)
 written_below numbers place vessel i below = sym (get_or-set_other numbers place i vessel 0 (λ same. omega arith))
 
-module _ {period : ℕ} {placed : List Placed} where
+module _ {period : ℕ} {placed : List (Option Placed)} where
   -- what is taken depends on the lower-numbered steps alone
-  pub taken_by : (place vessel : ℕ) (a b : List ℕ) → Agree place a b → Taken period placed a place vessel → Taken period placed b place vessel
-  taken_by place vessel a b same t = record {
+  pub taken_by : (place : ℕ) (step : Placed) (vessel : ℕ) (a b : List ℕ) → Agree place a b → Taken period placed a place step vessel → Taken period placed b place step vessel
+  taken_by place step vessel a b same t = record {
     by = t.by;
     lower = t.lower;
+    holder = t.holder;
+    present = t.present;
     keeps = record { has = sym (same t.by t.lower) ∙ t.keeps.has; same_kind = t.keeps.same_kind; shares = t.keeps.shares };
   }
 
-  pub gets_by : (stock place vessel : ℕ) (a b : List ℕ) → Agree place a b → Gets period stock placed a place vessel → Gets period stock placed b place vessel
-  gets_by stock place vessel a b same g = record {
+  pub gets_by : (stock place : ℕ) (step : Placed) (vessel : ℕ) (a b : List ℕ) → Agree place a b → Gets period stock placed a place step vessel → Gets period stock placed b place step vessel
+  gets_by stock place step vessel a b same g = record {
     from_one = g.from_one;
     in_stock = g.in_stock;
-    free = λ t. g.free (taken_by place vessel b a (agree_turned place a b same) t);
-    smallest = λ v low less. taken_by place v a b same (g.smallest v low less);
+    free = λ t. g.free (taken_by place step vessel b a (agree_turned place a b same) t);
+    smallest = λ v low less. taken_by place step v a b same (g.smallest v low less);
   }
 
   -- at most one number
-  pub gets_only : (stock place v w : ℕ) (a : List ℕ) → Gets period stock placed a place v → Gets period stock placed a place w → v ≡ w
-  gets_only stock place v w a x y =
+  pub gets_only : (stock place : ℕ) (step : Placed) (v w : ℕ) (a : List ℕ) → Gets period stock placed a place step v → Gets period stock placed a place step w → v ≡ w
+  gets_only stock place step v w a x y =
       ⊎_elim
       (λ same. same)
       (⊎_elim (λ less. absurd (x.free (y.smallest v x.from_one less))) (λ more. absurd (y.free (x.smallest w y.from_one more))))
@@ -45,7 +51,7 @@ module _ {period : ℕ} {placed : List Placed} where
     due_by : (place vessel : ℕ) (a b : List ℕ) → Agree place a b → Due period stock placed a place vessel → Due period stock placed b place vessel
     due_by place vessel a b same n = record {
       if_absent = n.if_absent;
-      if_present = λ some. gets_by (stock_for stock placed place) place vessel a b same (n.if_present some);
+      if_present = λ step some. gets_by (stock_for stock step) place step vessel a b same (n.if_present step some);
     }
 
     -- a number written at a place leaves lower-numbered steps what is due to them
@@ -64,9 +70,11 @@ module _ {period : ℕ} {placed : List Placed} where
     same_here place a b same x y =
         ⊎_elim
         (λ none. x.if_absent none ∙ sym (y.if_absent none))
-        (λ some. gets_only (stock_for stock placed place) place (get_or a place 0) (get_or b place 0) b
-        (gets_by (stock_for stock placed place) place (get_or a place 0) a b same (x.if_present some)) (y.if_present some))
-        (cases_eq (at placed place).start 65535)
+        (λ some.
+        let step = some.0 in
+        gets_only (stock_for stock step) place step (get_or a place 0) (get_or b place 0) b
+        (gets_by (stock_for stock step) place step (get_or a place 0) a b same (x.if_present step some.1)) (y.if_present step some.1))
+        (there_or_not (at placed place))
 
     -- numbers given out by the rule are the same
     pub agreed : (n : ℕ) (a b : List ℕ) → ((i : ℕ) → i < n → Numbered period stock placed a i) → ((i : ℕ) → i < n → Numbered period stock placed b i) → Agree n a b

@@ -9,3 +9,4 @@ mod sharing;
 pub use giving::give_out;
 pub use placed::{ABSENT, Placed};
 pub use refusals::Refusal;
+pub use sharing::hours_until;

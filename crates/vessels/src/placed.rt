@@ -1,7 +1,7 @@
-// The start hour that stands for an absent step.
+// The start hour that is written for an absent step.
 pub const ABSENT: u16 = 65_535;
 
-// A step with its start hour, or an absent step. The kind says which vessels serve it.
+// A step with its start hour. The kind says which vessels serve it.
 #[derive(Clone, Copy)]
 pub struct Placed {
     pub start: u16,

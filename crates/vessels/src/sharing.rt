@@ -1,11 +1,12 @@
 // Whether two steps share a class, told without going through their hours.
-ghost use Rattle.std.specs.Prelude.{◌≡◌, ◌+◌, ◌<◌, ◌⊎◌, MatchBool};
+ghost use Rattle.std.specs.Prelude.{◌≡◌, ℕ, ◌+◌, ◌<◌, ◌≤◌, ◌⊎◌, ◌↔◌, IsTrue};
+ghost use Rattle.choose.specs.Classes.{class};
 ghost use Rattle.vessels.specs.Sharing.{Shares};
 
 use super::placed::Placed;
 
 // Hours from one class on until another comes, where the first class follows the last.
-fn hours_until(from: u16, to: u16, period: u16) -> u16
+fn hours_between(from: u16, to: u16, period: u16) -> u16
     requires from { from < period }
     requires to { to < period }
     ensures below { result < period }
@@ -18,17 +19,29 @@ fn hours_until(from: u16, to: u16, period: u16) -> u16
     }
 }
 
+// The fewest hours after an hour at which the class of another comes up. A period of 0 has no classes, and the answer is
+// then 0.
+pub fn hours_until(from: u16, to: u16, period: u16) -> u16
+    ensures comes { 0 < period → class period (from + result) ≡ class period to }
+    ensures fewest { (hours : ℕ)
+        → class period (from + hours) ≡ class period to
+        → result ≤ hours }
+    ensures below { 0 < period → result < period }
+    ensures none { period ≡ 0 → result ≡ 0 }
+{
+    if period == 0 {
+        return 0;
+    }
+    hours_between(from % period, to % period, period)
+}
+
 // Two steps share a class exactly if the class in which one of them starts comes up while the other still runs.
 pub(crate) fn share(a: Placed, b: Placed, period: u16) -> bool
-    ensures { MatchBool result (Shares period a b) (Shares period a b → ⊥) }
+    ensures { IsTrue result ↔ Shares period a b }
 {
     if period == 0 || a.duration == 0 || b.duration == 0 {
         return false;
     }
-    let x = a.start % period;
-    let y = b.start % period;
-    if hours_until(x, y, period) < a.duration {
-        return true;
-    }
-    hours_until(y, x, period) < b.duration
+    hours_until(a.start, b.start, period) < a.duration
+        || hours_until(b.start, a.start, period) < b.duration
 }

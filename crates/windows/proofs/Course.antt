@@ -1,5 +1,5 @@
 -- A chooser's rule leads to one way of filling in the steps. Assumes nothing.
-use Rattle.std.proofs.Common.{◌≡◌, ℕ, suc, ◌<◌, List, pos, Some, unwrap_or, sym, refl, ap, ◌∙◌, subst, ⊎_elim, arith}
+use Rattle.std.proofs.Common.{◌≡◌, ℕ, suc, ◌<◌, List, pos, Some, Option, unwrap_or, sym, refl, ap, ◌∙◌, subst, ⊎_elim, arith}
 use Rattle.std.proofs.lemmas.Int.{ints}
 use Rattle.std.proofs.lemmas.Bool.{cases_order}
 use Rattle.choose.specs.Choosing.{HourRule}
@@ -15,11 +15,11 @@ same_record a b e = ap (λ o. unwrap_or o a) e
 
 module _ (s : RuleSheet) (rule : HourRule) where
   -- how many steps were placed on the way
-  abbrev steps_placed : (placed : List Placed) → Reached s rule placed → ℕ
+  abbrev steps_placed : (placed : List (Option Placed)) → Reached s rule placed → ℕ
   steps_placed placed nothing = 0
   steps_placed placed (further old n duration kind first last reached next told window) = suc (steps_placed old reached)
 
-  same_course : (a b : List Placed) (p : Reached s rule a) (q : Reached s rule b) → steps_placed a p ≡ steps_placed b q → a ≡ b
+  same_course : (a b : List (Option Placed)) (p : Reached s rule a) (q : Reached s rule b) → steps_placed a p ≡ steps_placed b q → a ≡ b
   same_course a b nothing nothing e = refl
   same_course a b nothing (further old n duration kind first last reached next told window) e = absurd (omega arith)
   same_course a b (further old n duration kind first last reached next told window) nothing e = absurd (omega arith)
@@ -32,10 +32,10 @@ module _ (s : RuleSheet) (rule : HourRule) where
       let other = last_unique s (starts old') n' _ _ moved.to window'.to in
       let firsts : first ≡ first' = omega (arith, ints) in
       let lasts : last ≡ last' = omega (arith, ints) in
-      λ i. replaced (olds i) (ns i) (placed_at (rule.hour (view_of s (olds i) (ns i) (records i).0 (records i).1 (firsts i) (lasts i))) (records i).0 (records i).1)
+      λ i. replaced (olds i) (ns i) (Some (placed_at (rule.hour (view_of s (olds i) (ns i) (records i).0 (records i).1 (firsts i) (lasts i))) (records i).0 (records i).1))
 
   -- where fewer steps are placed, one is still waiting
-  goes_on : (a b : List Placed) (p : Reached s rule a) (q : Reached s rule b) → steps_placed a p < steps_placed b q → ((n : ℕ) → Waiting s (starts a) n → ⊥) → ⊥
+  goes_on : (a b : List (Option Placed)) (p : Reached s rule a) (q : Reached s rule b) → steps_placed a p < steps_placed b q → ((n : ℕ) → Waiting s (starts a) n → ⊥) → ⊥
   goes_on a b p nothing less none = absurd (omega arith)
   goes_on a b p (further old n duration kind first last reached next told window) less none =
       ⊎_elim
@@ -43,7 +43,7 @@ module _ (s : RuleSheet) (rule : HourRule) where
       (⊎_elim (λ fewer. goes_on a old p reached fewer none) (λ more. absurd (omega arith)))
       (cases_order (steps_placed a p) (steps_placed old reached))
 
-  pub filled_unique : (a b : List Placed) → Filled s rule a → Filled s rule b → a ≡ b
+  pub filled_unique : (a b : List (Option Placed)) → Filled s rule a → Filled s rule b → a ≡ b
   filled_unique a b p q =
       ⊎_elim
       (λ same. same_course a b p.reached q.reached same)

@@ -1,5 +1,5 @@
 -- What is proved of windows in general. Assumes nothing.
-use Rattle.std.specs.Prelude.{◌≡◌, ℕ, List, ℤ}
+use Rattle.std.specs.Prelude.{◌≡◌, ℕ, List, ℤ, Option}
 use Rattle.choose.specs.Choosing.{HourRule}
 use Rattle.sheet.specs.Sheets.{RuleSheet}
 use Rattle.sheet.specs.Timetables.{Timetable}
@@ -14,4 +14,4 @@ pub record UniqueWindows : Type 0 where
   pub lasts : (s : RuleSheet) (placed : Timetable) (n : ℕ) (a b : ℤ) → IsLast s placed n a → IsLast s placed n b → a ≡ b
   pub slacks : (s : RuleSheet) (placed : Timetable) (n : ℕ) (a b : ℤ) → IsSlack s placed n a → IsSlack s placed n b → a ≡ b
   pub next : (s : RuleSheet) (placed : Timetable) (m n : ℕ) → IsNext s placed m → IsNext s placed n → m ≡ n
-  pub filled : (s : RuleSheet) (rule : HourRule) (a b : List Placed) → Filled s rule a → Filled s rule b → a ≡ b
+  pub filled : (s : RuleSheet) (rule : HourRule) (a b : List (Option Placed)) → Filled s rule a → Filled s rule b → a ≡ b

@@ -1,5 +1,5 @@
 -- The windows of steps while a timetable is filled, step by step, and which step comes next. Assumes nothing.
-use Rattle.std.specs.Prelude.{◌≡◌, ℕ, ◌+◌, ◌*◌, ◌<◌, false, cond, List, ℤ, pos, ◌-ℤ◌, ◌≤ℤ◌, ◌<ℤ◌, is_some, Some, None, ◌==◌, slice_index_or}
+use Rattle.std.specs.Prelude.{◌≡◌, ℕ, ◌+◌, ◌*◌, ◌<◌, false, List, ℤ, pos, ◌-ℤ◌, ◌≤ℤ◌, ◌<ℤ◌, is_some, Some, None, ◌==◌, if◌then◌else◌, slice_index_or}
 use Rattle.sheet.specs.Sheets.{RuleSheet, HasStep}
 use Rattle.sheet.specs.Timetables.{Timetable, start, Lawful}
 
@@ -14,7 +14,7 @@ nothing_placed n = None
 
 -- The starts placed, with one more: step n at an hour.
 abbrev pub with_start : Timetable → ℕ → ℤ → Timetable
-with_start placed n hour m = cond (m == n) (Some hour) (placed m)
+with_start placed n hour m = if m == n then Some hour else placed m
 
 -- A timetable agrees with the starts placed: each step placed starts at its hour.
 abbrev pub Agrees : Timetable → Timetable → Type 0

@@ -1,14 +1,13 @@
-use Rattle.std.proofs.Common.{◌≡◌, ℕ, ◌+◌, subst, ⊎_elim, arith}
-use Rattle.std.proofs.lemmas.Bool.{cases_lt}
+use Rattle.std.proofs.Common.{rules}
 use Rattle.vessels.specs.Vessels.{Taken}
+use Rattle.vessels.proofs.FirstHit.{first_hit}
 use Rattle.vessels.proofs.giving.vessel_for.Goals as goal
 
-pub loop-vessel-preserved : goal.loop-vessel-preserved
-loop-vessel-preserved c = λ v low high.
-    ⊎_elim
-    (λ less. c.loop-vessel.invariant v low (omega arith))
-    (λ more.
-    let next : c.loop-vessel.vessel + 1 ≡ v = omega arith in
-    let P : ℕ → Type 0 = λ w. Taken c.args.period c.args.placed.now c.args.numbers.now c.args.place w in
-    subst P next c.if-not-is_taken.ensures)
-    (cases_lt v (c.loop-vessel.vessel + 1))
+pub returns : goal.returns
+returns c =
+    let found = first_hit _ _ 1 c.args.stock c.find.result
+    (λ vessel. Taken c.args.period c.args.placed.now c.args.numbers.now c.args.place c.args.step vessel → ⊥)
+    (λ vessel. Taken c.args.period c.args.placed.now c.args.numbers.now c.args.place c.args.step vessel)
+    c.new.ensures.start c.new.ensures.end c.new.ensures.exhausted c.find.ensures.ran
+    (λ x q k. search rules) (λ x q k. search rules) in
+    search rules
