@@ -17,7 +17,7 @@ mod tests {
     use plan::{PlanRefusal, plan};
     use sheet::{Rule, Sheet, Step};
     use std::test::Fail;
-    use waits::{ChartRefusal, wait_chart};
+    use waits::{LoopRefusal, wait_chart};
 
     fn step(duration: u16, kind: u8, name: [u8; 8]) -> Option<Step> {
         Some(Step {
@@ -72,7 +72,7 @@ mod tests {
             Err(refusal) => refusal.number(),
         };
         let count = match answer {
-            Err(ChartRefusal::NoTimetable { count }) => count,
+            Err(LoopRefusal::NoTimetable { count }) => count,
             _ => 0,
         };
         Told {

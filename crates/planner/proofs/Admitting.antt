@@ -9,7 +9,7 @@ use Rattle.sheet.specs.Sheets.{rule_sheet}
 use Rattle.sheet.specs.declared.forms.Sheet.{Sheet}
 use Rattle.waits.proofs.Entries.{refused_plainly}
 use Rattle.waits.specs.Charts.{PlainlyCharted}
-use Rattle.waits.specs.declared.ChartRefusal.{ChartRefusal}
+use Rattle.loops.specs.declared.refusals.LoopRefusal.{LoopRefusal}
 use Rattle.planner.specs.Admitting.{Admitted, PlannerIf}
 use Rattle.planner.specs.Asking.{AskedFor}
 use Rattle.planner.specs.Entering.{sheet_of}
@@ -18,7 +18,7 @@ use Rattle.planner.specs.declared.planner.Planner.{Planner}
 use Rattle.planner.specs.declared.refusals.Refusal.TheVariants.{NoTimetable}
 
 -- a plain chart that is refused although there is room leaves the sheet without a planner
-pub impossible : (sheet : Sheet) (hours hours_after : List Hours) (chart chart_after : List ℤ) (refusal : ChartRefusal) → 1024 ≤ length hours → PlainlyCharted (rule_sheet sheet) hours hours_after chart chart_after (Err refusal) → 1024 ≤ length chart → PlannerIf sheet hours hours_after None
+pub impossible : (sheet : Sheet) (hours hours_after : List Hours) (chart chart_after : List ℤ) (refusal : LoopRefusal) → 1024 ≤ length hours → PlainlyCharted (rule_sheet sheet) hours hours_after chart chart_after (Err refusal) → 1024 ≤ length chart → PlannerIf sheet hours hours_after None
 impossible sheet hours hours_after chart chart_after refusal room charted long =
     let plainly = refused_plainly (rule_sheet sheet) hours hours_after chart chart_after refusal (room, long) charted in
     (λ possible. ∥∥₁_elim possible ⊥_prop (λ way. plainly.0 way.0 way.1), plainly.1)

@@ -1,5 +1,5 @@
 -- A planner for a sheet whose wait chart was given. Assumes nothing.
-use Rattle.std.proofs.Common.{◌≡◌, List, length, drop, ℤ, None, Ok, Err, Result, sym, refl, ap, ◌∙◌, subst, arith}
+use Rattle.std.proofs.Common.{◌≡◌, List, length, drop, ℤ, None, Ok, Err, sym, refl, ap, ◌∙◌, subst, arith}
 use mathlib.Core.Logic.{∥∥₁_map}
 use Rattle.std.proofs.lemmas.List.{take_all}
 use Rattle.loops.specs.Loops.{LoopWritten}
@@ -14,9 +14,10 @@ use Rattle.changes.specs.Changes.{asked}
 use Rattle.changes.specs.Faults.{first_fault}
 use Rattle.checked.specs.declared.checked.CheckedSheet.{CheckedSheet}
 use Rattle.waits.specs.Charts.{ChartWritten, Charted, Buffers as ChartBuffers}
-use Rattle.waits.specs.declared.ChartRefusal.{ChartRefusal}
-use Rattle.waits.specs.declared.ChartRefusal.TheVariants.{TooShort, NoTimetable}
-use Rattle.planner.specs.Asking.{AskedFor, GivenChart, PlannerWith, PlannerFor, without_chart}
+use Rattle.loops.specs.declared.refusals.LoopRefusal.{LoopRefusal}
+use Rattle.loops.specs.declared.refusals.LoopRefusal.TheVariants.{TooShort, NoTimetable}
+use Rattle.planner.specs.Asking.{AskedFor, PlannerFor}
+use Rattle.planner.specs.Refusals.{without_chart}
 use Rattle.planner.specs.Entering.{Buffers, Room, Entered, sheet_of}
 use Rattle.planner.specs.declared.planner.Planner.{Planner}
 use Rattle.planner.specs.declared.refusals.Refusal.{Refusal}
@@ -38,38 +39,31 @@ module _ (sheet : Sheet) (before chart : List ℤ) (size : length chart ≡ 1024
 abbrev pub less_chart : ChartBuffers → Buffers
 less_chart b = record { hours = b.hours; counted = b.counted; codes = b.codes }
 
-by_refusal : (sheet : Sheet) (before after : ChartBuffers) (refusal : ChartRefusal) → Charted (rule_sheet sheet) before after (Err refusal) → Room (less_chart before) → length after.chart ≡ 1024 → PlannerFor sheet (less_chart before) (less_chart after) (Err (without_chart refusal))
-by_refusal sheet before after TooShort short room size =
+-- why there is no planner: the buffers had their room
+pub by_refusal : (sheet : Sheet) (before after : ChartBuffers) (refusal : LoopRefusal) (told : Refusal) → told ≡ without_chart refusal → Charted (rule_sheet sheet) before after (Err refusal) → Room (less_chart before) → length after.chart ≡ 1024 → PlannerFor sheet (less_chart before) (less_chart after) (Err told)
+by_refusal sheet before after TooShort told is short room size =
     let same = ap (λ (b : ChartBuffers). length b.chart) short.1 in
-    short.0 (record { hours = room.hours; counted = room.counted; chart = omega (arith, same, size); codes = room.codes })
-by_refusal sheet before after (NoTimetable count) refused room size =
-    record { none = refused.none; charts = record { hours = refused.hours; counted = refused.counted }; loop = refused.loop }
+    absurd (short.0 (record { hours = room.hours; counted = room.counted; chart = omega (arith, same, size); codes = room.codes }))
+by_refusal sheet before after (NoTimetable count) told is refused room size =
+    subst (λ r. PlannerFor sheet (less_chart before) (less_chart after) (Err r)) (sym is)
+    (record { none = refused.none; charts = record { hours = refused.hours; counted = refused.counted }; loop = refused.loop })
 
--- the chart that was given, where one was
-pub given_chart : (sheet : Sheet) (before after : ChartBuffers) (charted : Result (Unit {0}) ChartRefusal) → length after.chart ≡ 1024 → Charted (rule_sheet sheet) before after charted → GivenChart sheet after.chart charted
-given_chart sheet before after (Ok done) size given = ∣ plannable sheet before.chart after.chart size given.written ∣₁
-given_chart sheet before after (Err refusal) size given = tt
-
--- a planner with the chart that was given, or none where it was refused although the buffers had their room
-pub by_chart : (sheet : Sheet) (before after : ChartBuffers) (charted : Result (Unit {0}) ChartRefusal) (told : Result Planner Refusal) → PlannerWith sheet charted told → Charted (rule_sheet sheet) before after charted → Room (less_chart before) → length after.chart ≡ 1024 → PlannerFor sheet (less_chart before) (less_chart after) told
-by_chart sheet before after (Ok done) (Ok planner) is given room size = record {
+-- a planner with the chart that was given
+pub by_chart : (sheet : Sheet) (before after : ChartBuffers) (planner : Planner) → sheet_of planner ≡ sheet → Charted (rule_sheet sheet) before after (Ok tt) → length after.chart ≡ 1024 → PlannerFor sheet (less_chart before) (less_chart after) (Ok planner)
+by_chart sheet before after planner is given size = record {
   told = is;
   lawful = has_lawful sheet before.chart after.chart size given.written;
   charts = record { hours = given.hours; counted = ap (drop 1024) given.counted };
   codes = given.codes;
 }
-by_chart sheet before after (Ok done) (Err refusal) never given room size = absurd never
-by_chart sheet before after (Err refused) (Ok planner) never given room size = absurd never
-by_chart sheet before after (Err refused) (Err refusal) is given room size =
-    subst (λ r. PlannerFor sheet (less_chart before) (less_chart after) (Err r)) (sym is) (by_refusal sheet before after refused given room size)
 
 module _ (sheet : Sheet) (i : Instruction) (checked : CheckedSheet) (asks : AskedFor sheet i (Ok checked)) (before after : Buffers) (room : Room before) where
-  pub accepted : (planner standing : Planner) → standing ≡ planner → PlannerFor checked.sheet before after (Ok planner) → Entered sheet i before (sheet_of standing) after (Ok tt)
-  accepted planner standing stands planned = record {
+  pub accepted : (planner : Planner) → PlannerFor checked.sheet before after (Ok planner) → Entered sheet i before (sheet_of planner) after (Ok tt)
+  accepted planner planned = record {
     room = room;
     no_fault = asks.0;
     lawful = subst (λ x. ∥ ((t : Timetable) × Lawful (rule_sheet x) t) ∥₁) asks.1 planned.lawful;
-    becomes = ap sheet_of stands ∙ planned.told ∙ asks.1;
+    becomes = planned.told ∙ asks.1;
     charts = planned.charts;
     codes = planned.codes;
   }

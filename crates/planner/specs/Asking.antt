@@ -1,5 +1,5 @@
 -- The two halves of entering a command: the sheet asked for, and a planner for it. Assumes nothing.
-use Rattle.std.specs.Prelude.{◌≡◌, ℕ, List, ℤ, Some, None, Ok, Err, Result}
+use Rattle.std.specs.Prelude.{◌≡◌, ℕ, Some, None, Ok, Err, Result}
 use Rattle.book.specs.Commands.{Instruction}
 use Rattle.changes.specs.Changes.{asked}
 use Rattle.changes.specs.Faults.{first_fault}
@@ -9,9 +9,6 @@ use Rattle.loops.specs.Loops.{LoopWritten}
 use Rattle.sheet.specs.Sheets.{rule_sheet}
 use Rattle.sheet.specs.Timetables.{Timetable, Lawful}
 use Rattle.sheet.specs.declared.forms.Sheet.{Sheet}
-use Rattle.waits.specs.declared.ChartRefusal.{ChartRefusal}
-use Rattle.waits.specs.declared.ChartRefusal.TheVariants as chart
-use Rattle.planner.specs.Invariant.{Plannable}
 use Rattle.planner.specs.Entering.{Buffers, ChartsUsed, sheet_of}
 use Rattle.planner.specs.declared.planner.Planner.{Planner}
 use Rattle.planner.specs.declared.refusals.Refusal.{Refusal}
@@ -21,23 +18,6 @@ use Rattle.planner.specs.declared.refusals.Refusal.TheVariants.{Faulty, NoTimeta
 abbrev pub AskedFor : Sheet → Instruction → Result CheckedSheet CommandFault → Type 0
 AskedFor sheet i (Ok checked) = (first_fault sheet i ≡ None) × (checked.sheet ≡ asked sheet i)
 AskedFor sheet i (Err fault) = first_fault sheet i ≡ Some fault
-
--- why there is no planner where there is no wait chart
-abbrev pub without_chart : ChartRefusal → Refusal
-without_chart chart.TooShort = TooShort
-without_chart (chart.NoTimetable count) = NoTimetable count
-
--- where a wait chart was given, it is the sheet's
-abbrev pub GivenChart : Sheet → List ℤ → Result (Unit {0}) ChartRefusal → Type 0
-GivenChart sheet chart (Ok done) = ∥ Plannable sheet chart ∥₁
-GivenChart sheet chart (Err refusal) = Unit {0}
-
--- a planner with the sheet where a wait chart was given, and the chart's refusal where not
-abbrev pub PlannerWith : Sheet → Result (Unit {0}) ChartRefusal → Result Planner Refusal → Type 0
-PlannerWith sheet (Ok done) (Ok planner) = sheet_of planner ≡ sheet
-PlannerWith sheet (Ok done) (Err refusal) = ⊥
-PlannerWith sheet (Err refused) (Ok planner) = ⊥
-PlannerWith sheet (Err refused) (Err refusal) = refusal ≡ without_chart refused
 
 -- a planner with a sheet that has a lawful timetable
 pub record Planned (sheet : Sheet) (planner : Planner) (before after : Buffers) : Type 0 where

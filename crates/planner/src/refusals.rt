@@ -1,9 +1,10 @@
 ghost use Rattle.std.specs.Prelude.{◌≡◌};
-ghost use Rattle.planner.specs.Refusals.{refusal_number};
+ghost use Rattle.planner.specs.Refusals.{refusal_number, without_chart};
 ghost use Rattle.planner.specs.declared.refusals.Refusal.TheVariants.{Faulty, Unread};
 
 use book::Fault;
 use changes::CommandFault;
+use loops::LoopRefusal;
 
 // Why a command was not entered.
 #[derive(Clone, Copy, Debug, PartialEq, Eq)]
@@ -45,5 +46,17 @@ impl From<Fault> for Refusal {
 
     fn from(fault: Fault) -> Refusal {
         Refusal::Unread(fault)
+    }
+}
+
+// No wait chart, no planner.
+impl From<LoopRefusal> for Refusal {
+    ghost from_gives = { λ f r. r ≡ without_chart f };
+
+    fn from(refusal: LoopRefusal) -> Refusal {
+        match refusal {
+            LoopRefusal::NoTimetable { count } => Refusal::NoTimetable { count },
+            LoopRefusal::TooShort => Refusal::TooShort,
+        }
     }
 }

@@ -12,8 +12,8 @@ use Rattle.plan.specs.declared.planning.PlanRefusal.TheVariants as plan
 use Rattle.planner.specs.Rules.{number_by}
 use Rattle.sheet.specs.Limits.{SoundSheet}
 use Rattle.sheet.specs.Sheets.{RuleSheet}
-use Rattle.waits.specs.declared.ChartRefusal.{ChartRefusal}
-use Rattle.waits.specs.declared.ChartRefusal.TheVariants as chart
+use Rattle.loops.specs.declared.refusals.LoopRefusal.{LoopRefusal}
+use Rattle.loops.specs.declared.refusals.LoopRefusal.TheVariants as chart
 use Rattle.promise.specs.Charts.{Enough, ChartTold, SameTold}
 use Rattle.promise.specs.Plans.{PlanTold}
 use Rattle.promise.specs.Promise.{Fourteen, Compared}
@@ -61,7 +61,7 @@ module _ (hours hours_later : List Hours) (counted counted_later : List Counted)
       let k = enough.for_codes in
       record { for_hours = omega arith; for_counts = omega arith; for_codes = omega arith }
 
-  pub chart_later : (s : RuleSheet) (r : Result (List ℤ) ChartRefusal) → ChartTold s hours_later counted_later codes_later r → ChartTold s hours counted codes r
+  pub chart_later : (s : RuleSheet) (r : Result (List ℤ) LoopRefusal) → ChartTold s hours_later counted_later codes_later r → ChartTold s hours counted codes r
   chart_later s (Ok a) told = told
   chart_later s (Err chart.TooShort) told = λ enough. told (enough_later enough)
   chart_later s (Err (chart.NoTimetable count)) told = told
@@ -73,7 +73,7 @@ module _ (hours hours_later : List Hours) (counted counted_later : List Counted)
   plan_later s rule stock (Err (plan.NoTimetable count)) told = told
   plan_later s rule stock (Err (plan.NoVessel step)) told = told
 
-pub compared : (s u : SoundSheet) (hours : List Hours) (counted : List Counted) (codes : List ℕ) (first second : Result (List ℤ) ChartRefusal) (same : Option Bool) → ChartTold s.told hours counted codes first → ChartTold u.told hours counted codes second → SameTold first second same → Compared s.told u.told first second same
+pub compared : (s u : SoundSheet) (hours : List Hours) (counted : List Counted) (codes : List ℕ) (first second : Result (List ℤ) LoopRefusal) (same : Option Bool) → ChartTold s.told hours counted codes first → ChartTold u.told hours counted codes second → SameTold first second same → Compared s.told u.told first second same
 compared s u hours counted codes (Ok a) (Ok b) (Some same) p q told = record {
   equal = told;
   alike = alike_by_chart s.told u.told s.sound u.sound a b p q;

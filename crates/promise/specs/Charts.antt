@@ -5,8 +5,8 @@ use Rattle.kinds.specs.declared.together.Counted.{Counted}
 use Rattle.sheet.specs.Sheets.{RuleSheet}
 use Rattle.sheet.specs.Timetables.{Timetable, Lawful}
 use Rattle.sheet.specs.Waits.{IsChart}
-use Rattle.waits.specs.declared.ChartRefusal.{ChartRefusal}
-use Rattle.waits.specs.declared.ChartRefusal.TheVariants.{TooShort, NoTimetable}
+use Rattle.loops.specs.declared.refusals.LoopRefusal.{LoopRefusal}
+use Rattle.loops.specs.declared.refusals.LoopRefusal.TheVariants.{TooShort, NoTimetable}
 
 -- The working charts and the codes have their room.
 pub record Enough (hours : List Hours) (counted : List Counted) (codes : List ℕ) : Type 0 where
@@ -16,7 +16,7 @@ pub record Enough (hours : List Hours) (counted : List Counted) (codes : List �
 
 -- A chart that is given is the least waits over lawful timetables. It is refused only by 30, for want of room, or by 14,
 -- where there is no lawful timetable.
-abbrev pub ChartTold : RuleSheet → List Hours → List Counted → List ℕ → Result (List ℤ) ChartRefusal → Type 0
+abbrev pub ChartTold : RuleSheet → List Hours → List Counted → List ℕ → Result (List ℤ) LoopRefusal → Type 0
 ChartTold s hours counted codes (Ok chart) = IsChart s chart
 ChartTold s hours counted codes (Err TooShort) = Enough hours counted codes → ⊥
 ChartTold s hours counted codes (Err (NoTimetable count)) = (t : Timetable) → Lawful s t → ⊥
@@ -26,7 +26,7 @@ abbrev pub Agree : List ℤ → List ℤ → ℕ → Type 0
 Agree a b count = (k : ℕ) → k < count → slice_index_or a k (pos 0) ≡ slice_index_or b k (pos 0)
 
 -- Two charts that are given are compared in all entries.
-abbrev pub SameTold : Result (List ℤ) ChartRefusal → Result (List ℤ) ChartRefusal → Option Bool → Type 0
+abbrev pub SameTold : Result (List ℤ) LoopRefusal → Result (List ℤ) LoopRefusal → Option Bool → Type 0
 SameTold (Ok a) (Ok b) (Some same) = Decides same (a ≡ b)
 SameTold (Ok a) (Ok b) None = ⊥
 SameTold (Ok a) (Err refusal) answer = answer ≡ None

@@ -13,7 +13,7 @@ use Rattle.runs.specs.Runs.{Asked}
 use Rattle.runs.specs.Turns.{RunTaken}
 use Rattle.sheet.specs.Sheets.{RuleSheet}
 use Rattle.sheet.specs.declared.forms.Sheet.{Sheet}
-use Rattle.waits.specs.declared.ChartRefusal.{ChartRefusal}
+use Rattle.loops.specs.declared.refusals.LoopRefusal.{LoopRefusal}
 use Rattle.promise.specs.Charts.{ChartTold}
 use Rattle.promise.specs.Plans.{PlanTold}
 use Rattle.promise.specs.declared.promise.Kept.{Kept}
@@ -32,7 +32,7 @@ pub record AlikeTold (s u : RuleSheet) (a b : List ℤ) (same : Bool) : Type 0 w
   pub unlike : Alike s u → a ≡ b
 
 -- Charts are compared if both were given.
-abbrev pub Compared : RuleSheet → RuleSheet → Result (List ℤ) ChartRefusal → Result (List ℤ) ChartRefusal → Option Bool → Type 0
+abbrev pub Compared : RuleSheet → RuleSheet → Result (List ℤ) LoopRefusal → Result (List ℤ) LoopRefusal → Option Bool → Type 0
 Compared s u (Ok a) (Ok b) (Some same) = AlikeTold s u a b same
 Compared s u (Ok a) (Ok b) None = ⊥
 Compared s u (Ok a) (Err refusal) answer = answer ≡ None

@@ -3,7 +3,7 @@ ghost use Rattle.promise.specs.Charts.{ChartTold, Agree, SameTold};
 
 use kinds::{Counted, Hours};
 use sheet::Source;
-use waits::{ChartRefusal, wait_chart};
+use waits::{LoopRefusal, wait_chart};
 
 // The wait chart of a source.
 pub(crate) fn chart_of<S: Source>(
@@ -11,7 +11,7 @@ pub(crate) fn chart_of<S: Source>(
     hours: &mut [Hours],
     counted: &mut [Counted],
     codes: &mut [u16],
-) -> Result<[i16; 1024], ChartRefusal>
+) -> Result<[i16; 1024], LoopRefusal>
     ensures { ChartTold (S.Source.sheet source.now).told hours.old counted.old codes.old result }
 {
     let mut chart = [0; 1024];
@@ -41,8 +41,8 @@ fn are_equal(a: &[i16; 1024], b: &[i16; 1024]) -> bool
 
 // Whether two charts that were given are equal; nothing, if one was not given.
 pub(crate) fn compare(
-    first: &Result<[i16; 1024], ChartRefusal>,
-    second: &Result<[i16; 1024], ChartRefusal>,
+    first: &Result<[i16; 1024], LoopRefusal>,
+    second: &Result<[i16; 1024], LoopRefusal>,
 ) -> Option<bool>
     ensures { SameTold first.now second.now result }
 {

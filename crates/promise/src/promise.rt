@@ -11,7 +11,7 @@ use planner::Planner;
 use runs::{Call, Note, run};
 use sheet::Source;
 use std::alloc::{AllocError, Global};
-use waits::ChartRefusal;
+use waits::LoopRefusal;
 
 // What has come of a run of calls, of two wait charts and of a plan.
 #[derive(Drop)]
@@ -20,8 +20,8 @@ pub struct Kept {
     pub planner: Planner,
     pub notes: Vec<Note>,
     // The wait charts of the two sources, and whether they are equal, if both were given.
-    pub first: Result<[i16; 1024], ChartRefusal>,
-    pub second: Result<[i16; 1024], ChartRefusal>,
+    pub first: Result<[i16; 1024], LoopRefusal>,
+    pub second: Result<[i16; 1024], LoopRefusal>,
     pub same: Option<bool>,
     // The plan of the first source.
     pub plan: Result<Plan, PlanRefusal>,

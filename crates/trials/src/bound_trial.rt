@@ -2,7 +2,7 @@
 use super::tally::more;
 use super::tie::{Way, along, is_closed, tie_with_code, way_from, weight};
 use super::trial::Trial;
-use bound::{BoundRefusal, period_bound};
+use bound::{LoopRefusal, period_bound};
 use checked::CheckedSheet;
 use kinds::{Counted, Hours};
 
@@ -114,9 +114,9 @@ pub fn bound_agrees(trial: &Trial, source: &CheckedSheet, loops: &Loops) -> bool
     let mut codes = [0u16; 32];
     match period_bound(source, &mut hours, &mut counted, &mut codes) {
         Ok(bound) => !loops.blocked && bound as u32 == loops.bound,
-        Err(BoundRefusal::NoTimetable { count }) => {
+        Err(LoopRefusal::NoTimetable { count }) => {
             loops.blocked && is_heavy_loop(trial, &codes, count, 999)
         }
-        Err(BoundRefusal::TooShort) => false,
+        Err(LoopRefusal::TooShort) => false,
     }
 }

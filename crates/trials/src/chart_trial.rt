@@ -4,7 +4,7 @@ use super::timetable::Found;
 use super::trial::Trial;
 use checked::CheckedSheet;
 use kinds::{Counted, Hours};
-use waits::{ChartRefusal, wait_chart};
+use waits::{LoopRefusal, wait_chart};
 
 // The entry that is due at 32 * i + j.
 fn entry_due(trial: &Trial, found: &Found, k: usize) -> i16 {
@@ -35,9 +35,9 @@ pub fn chart_agrees(trial: &Trial, source: &CheckedSheet, found: &Found) -> bool
     let mut codes = [0u16; 32];
     match wait_chart(source, &mut hours, &mut counted, &mut chart, &mut codes) {
         Ok(()) => found.lawful > 0 && entries_agree(trial, found, &chart),
-        Err(ChartRefusal::NoTimetable { count }) => {
+        Err(LoopRefusal::NoTimetable { count }) => {
             found.lawful == 0 && is_heavy_loop(trial, &codes, count, trial.period as u16)
         }
-        Err(ChartRefusal::TooShort) => false,
+        Err(LoopRefusal::TooShort) => false,
     }
 }

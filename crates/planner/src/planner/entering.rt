@@ -1,7 +1,7 @@
 // How a planner begins, and how commands change it.
-ghost use Rattle.std.specs.Prelude.{◌≡◌, MatchBool};
+ghost use Rattle.std.specs.Prelude.{◌≡◌, ◌↔◌, IsTrue};
 ghost use Rattle.book.specs.Commands.{said};
-ghost use Rattle.planner.specs.Asking.{AskedFor, without_chart, GivenChart, PlannerWith, PlannerFor};
+ghost use Rattle.planner.specs.Asking.{AskedFor, PlannerFor};
 ghost use Rattle.planner.specs.Invariant.{empty_chart};
 ghost use Rattle.planner.specs.Entering.{sheet_of, Room, Entered};
 ghost use Rattle.sheet.specs.Edits.{empty_sheet};
@@ -14,7 +14,7 @@ use checked::CheckedSheet;
 use commands::change;
 use kinds::{Counted, Hours};
 use sheet::Sheet;
-use waits::{ChartRefusal, wait_chart};
+use waits::wait_chart;
 
 fn empty_sheet() -> CheckedSheet
     ensures { result.sheet ≡ empty_sheet }
@@ -34,7 +34,8 @@ fn empty_chart() -> [i16; 1024]
 }
 
 fn has_room(hours: &[Hours], counted: &[Counted], codes: &[u16]) -> bool
-    ensures { MatchBool result (Room (record { hours = hours.now; counted = counted.now; codes = codes.now })) (Room (record { hours = hours.now; counted = counted.now; codes = codes.now }) → ⊥) }
+    ensures { IsTrue result
+        ↔ Room (record { hours = hours.now; counted = counted.now; codes = codes.now }) }
 {
     hours.len() >= 1024 && counted.len() >= 1024 && codes.len() >= 32
 }
@@ -51,31 +52,6 @@ pub(crate) fn asked_for(
     Ok(CheckedSheet { sheet })
 }
 
-// No chart, no planner.
-fn without_chart(refusal: ChartRefusal) -> Refusal
-    ensures { result ≡ without_chart refusal }
-{
-    match refusal {
-        ChartRefusal::NoTimetable { count } => Refusal::NoTimetable { count },
-        ChartRefusal::TooShort => Refusal::TooShort,
-    }
-}
-
-// A planner for a sheet exactly if there is a wait chart of it.
-fn planner_with(
-    charted: Result<(), ChartRefusal>,
-    checked: CheckedSheet,
-    chart: [i16; 1024],
-) -> Result<Planner, Refusal>
-    requires { GivenChart checked.sheet chart charted }
-    ensures { PlannerWith checked.sheet charted result }
-{
-    match charted {
-        Ok(()) => Ok(Planner { checked, chart }),
-        Err(refusal) => Err(without_chart(refusal)),
-    }
-}
-
 // A planner for a sheet, if that has a lawful timetable.
 fn planner_for(
     checked: CheckedSheet,
@@ -84,18 +60,13 @@ fn planner_for(
     codes: &mut [u16],
 ) -> Result<Planner, Refusal>
     requires { Room (record { hours = hours.old; counted = counted.old; codes = codes.old }) }
-    ensures { PlannerFor checked.sheet (record { hours = hours.old; counted = counted.old; codes = codes.old }) (record { hours = hours.new; counted = counted.new; codes = codes.new }) result }
+    ensures { PlannerFor checked.sheet
+        (record { hours = hours.old; counted = counted.old; codes = codes.old })
+        (record { hours = hours.new; counted = counted.new; codes = codes.new }) result }
 {
     let mut chart = [0; 1024];
-    let charted = wait_chart(&checked, hours, counted, &mut chart, codes);
-    planner_with(charted, checked, chart)
-}
-
-// The planner that was found takes the place of the one that stands.
-fn replace(standing: &mut Planner, planner: Planner)
-    ensures { standing.new ≡ planner }
-{
-    *standing = planner;
+    wait_chart(&checked, hours, counted, &mut chart, codes)?;
+    Ok(Planner { checked, chart })
 }
 
 impl Planner {
@@ -119,18 +90,16 @@ impl Planner {
         counted: &mut [Counted],
         codes: &mut [u16],
     ) -> Result<(), Refusal>
-        ensures { Entered (sheet_of self.old) (said command.now) (record { hours = hours.old; counted = counted.old; codes = codes.old }) (sheet_of self.new) (record { hours = hours.new; counted = counted.new; codes = codes.new }) result }
+        ensures { Entered (sheet_of self.old) (said command.now)
+            (record { hours = hours.old; counted = counted.old; codes = codes.old })
+            (sheet_of self.new)
+            (record { hours = hours.new; counted = counted.new; codes = codes.new }) result }
     {
         if !has_room(hours, counted, codes) {
             return Err(Refusal::TooShort);
         }
         let asked = asked_for(&self.checked, command)?;
-        match planner_for(asked, hours, counted, codes) {
-            Ok(planner) => {
-                replace(self, planner);
-                Ok(())
-            }
-            Err(refusal) => Err(refusal),
-        }
+        *self = planner_for(asked, hours, counted, codes)?;
+        Ok(())
     }
 }

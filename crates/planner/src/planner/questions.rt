@@ -18,15 +18,13 @@ fn record_of(sheet: &Sheet, step: u8) -> Result<Step, CommandFault>
     if !is_from(1, 31, step as u16) {
         return Err(CommandFault::StepNumber);
     }
-    match sheet.step(step) {
-        Some(record) => Ok(record),
-        None => Err(CommandFault::StepAbsent),
-    }
+    sheet.step(step).ok_or(CommandFault::StepAbsent)
 }
 
 // The wait from hour zero to a step, which is its earliest start.
 fn earliest(chart: &[i16; 1024], step: u8) -> u16
-    requires { (step < 32) × (pos 0 ≤ℤ slice_index_or chart.now step (pos 0)) }
+    requires step { step < 32 }
+    requires low { pos 0 ≤ℤ slice_index_or chart.now step (pos 0) }
     ensures { pos result ≡ slice_index_or chart.now step (pos 0) }
 {
     chart[step as usize] as u16
@@ -34,15 +32,19 @@ fn earliest(chart: &[i16; 1024], step: u8) -> u16
 
 // The wait from a step back to hour zero, which is minus its latest start.
 fn latest(chart: &[i16; 1024], step: u8) -> u16
-    requires { (step < 32) × ((neg_ℤ (pos 2000) ≤ℤ slice_index_or chart.now (32 * step) (pos 0)) × (slice_index_or chart.now (32 * step) (pos 0) ≤ℤ pos 0)) }
+    requires step { step < 32 }
+    requires low { neg_ℤ (pos 2000) ≤ℤ slice_index_or chart.now (32 * step) (pos 0) }
+    requires high { slice_index_or chart.now (32 * step) (pos 0) ≤ℤ pos 0 }
     ensures { neg_ℤ (pos result) ≡ slice_index_or chart.now (32 * step) (pos 0) }
 {
     -chart[32 * step as usize] as u16
 }
 
 fn window_at(chart: &[i16; 1024], step: u8) -> (u16, u16)
-    requires first_hour { (step < 32) × (pos 0 ≤ℤ slice_index_or chart.now step (pos 0)) }
-    requires last_hour { (neg_ℤ (pos 2000) ≤ℤ slice_index_or chart.now (32 * step) (pos 0)) × (slice_index_or chart.now (32 * step) (pos 0) ≤ℤ pos 0) }
+    requires step { step < 32 }
+    requires first { pos 0 ≤ℤ slice_index_or chart.now step (pos 0) }
+    requires last_low { neg_ℤ (pos 2000) ≤ℤ slice_index_or chart.now (32 * step) (pos 0) }
+    requires last_high { slice_index_or chart.now (32 * step) (pos 0) ≤ℤ pos 0 }
     ensures first { pos result.0 ≡ slice_index_or chart.now step (pos 0) }
     ensures last { neg_ℤ (pos result.1) ≡ slice_index_or chart.now (32 * step) (pos 0) }
 {

@@ -7,9 +7,12 @@ window_at-requires c =
     let p = c.args.self.now in
     let here = told_present p.checked.sheet c.args.step _ (sym c.in_ok-record_of.ensures) in
     let out = out_range p.checked.sheet p.chart p.checked.sound p.kept c.args.step here in
+    let back = back_range p.checked.sheet p.chart p.checked.sound p.kept c.args.step here in
     record {
-      first_hour = (low p.checked.sheet p.chart p.checked.sound p.kept c.args.step here, out.0);
-      last_hour = back_range p.checked.sheet p.chart p.checked.sound p.kept c.args.step here;
+      step = low p.checked.sheet p.chart p.checked.sound p.kept c.args.step here;
+      first = out.0;
+      last_low = back.0;
+      last_high = back.1;
     }
 
 pub returns : goal.returns
