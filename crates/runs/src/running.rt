@@ -14,7 +14,8 @@ use std::alloc::{AllocError, Global};
 fn add_note(notes: &mut Vec<Note>, note: Note) -> Result<(), AllocError>
     ensures { OnOk result (notes.new.items ≡ notes.old.items ++ (note ∷ [])) }
 {
-    notes.extend_from_slice(&[note])
+    notes.push(note)?;
+    Ok(())
 }
 
 // Notes each report of a merge.
@@ -83,14 +84,6 @@ fn take_call(
     }
 }
 
-// The call at a place of the list.
-fn call_at<'a>(calls: &[Call<'a>], place: usize) -> Call<'a>
-    requires { place < length calls.now }
-    ensures { asked_by result ≡ asked_at calls.now place }
-{
-    calls[place]
-}
-
 // Carries out all calls, one by one; a refusal does not end the run.
 fn take_calls(
     planner: &mut Planner,
@@ -99,9 +92,8 @@ fn take_calls(
 ) -> Result<(), AllocError>
     ensures { OnOk result (Running (sheet_of planner.old) calls.now notes.old.items (length calls.now) (sheet_of planner.new) notes.new.items) }
 {
-    for call in 0..calls.len() {
-        let asked = call_at(calls, call);
-        take_call(planner, &asked, call, notes)?;
+    for (call, asked) in calls.iter().enumerate() {
+        take_call(planner, asked, call, notes)?;
     }
     Ok(())
 }
