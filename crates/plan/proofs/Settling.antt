@@ -1,6 +1,6 @@
 -- From steps filled in to a plan written. Assumes nothing.
-use Rattle.std.proofs.Common.{◌≡◌, ℕ, ◌<◌, ◌≤◌, List, ◌++◌, length, get_or, take, drop, ℤ, is_some, Some, None, Err, Option, unwrap_or, sym, refl, ap, ◌∙◌, subst, arith}
-use Rattle.std.proofs.lemmas.List.{length-take-le, length-map, get_or-take, get_or-map, take-append-drop, ext_get_or}
+use Rattle.std.proofs.Common.{◌≡◌, ℕ, ◌<◌, ◌≤◌, List, ◌++◌, length, get_or, drop, ℤ, is_some, Some, None, Err, Option, unwrap_or, sym, refl, ap, ◌∙◌, subst, arith}
+use Rattle.std.proofs.lemmas.List.{length-map, get_or-map, ext_get_or}
 use Rattle.std.proofs.lemmas.Bool.{true≢false, false≢true}
 use Rattle.choose.specs.Choosing.{HourRule}
 use Rattle.plan.specs.Plans.{CountsFit, start_hours, Settled, Written, Wrote, Buffers, Room, Planned, of_chart}
@@ -21,16 +21,13 @@ use Rattle.brews.specs.Brews.{HeldOnce}
 use Rattle.windows.specs.Placing.{Filled, starts as starts_of}
 use Rattle.windows.proofs.Course.{filled_unique}
 
-pub starts_written : (placed : List Placed) (old new : List ℕ) → length placed ≡ 31 → 31 ≤ length new → ((i : ℕ) → i < 31 → get_or new i 0 ≡ (at placed i).start) → drop 31 new ≡ drop 31 old → new ≡ start_hours placed ++ drop 31 old
-starts_written placed old new long room each rest =
-    let front_long = length-take-le 31 new room in
-    let hours_long = length-map placed (λ (step : Placed). step.start) in
-    let front : take 31 new ≡ start_hours placed =
-    ext_get_or 0 (take 31 new) (start_hours placed) (omega arith)
+-- start hours read place by place
+pub hours_are : (placed : List Placed) (hours : List ℕ) → length placed ≡ 31 → length hours ≡ 31 → ((i : ℕ) → i < 31 → get_or hours i 0 ≡ (at placed i).start) → hours ≡ start_hours placed
+hours_are placed hours long as_long each =
+    ext_get_or 0 hours (start_hours placed) (as_long ∙ sym (length-map placed (λ (step : Placed). step.start) ∙ long))
     (λ i low.
     let inside : i < 31 = omega arith in
-    get_or-take 31 new i 0 inside ∙ each i inside ∙ sym (get_or-map (λ (step : Placed). step.start) placed i (record { start = 0; duration = 0; kind = 0 }) 0 (omega arith))) in
-    sym (take-append-drop 31 new) ∙ ap (λ xs. xs ++ drop 31 new) front ∙ ap (λ xs. start_hours placed ++ xs) rest
+    each i inside ∙ sym (get_or-map (λ (step : Placed). step.start) placed i (record { start = 0; duration = 0; kind = 0 }) 0 (omega arith)))
 
 pub settled : (s : RuleSheet) (rule : HourRule) (stock : List ℕ) (placed : List Placed) (outcome : Outcome) → Filled s rule placed → GivesOut s.period stock placed outcome → Settled s rule stock placed outcome
 settled s rule stock placed outcome filled gives = record {

@@ -1,11 +1,9 @@
-use Rattle.std.proofs.Common.{⊎_elim, arith}
-use Rattle.std.proofs.lemmas.List.{get_or_past}
-use Rattle.std.proofs.lemmas.Bool.{cases_lt}
+use Rattle.std.proofs.Common.{◌↔◌, ◌≤◌, IsTrue, rules}
+use Rattle.std.specs.List.{All}
+use Rattle.plan.proofs.Stocks.{fits_or_over}
 use Rattle.plan.proofs.planning.counts_fit.Goals as goal
 
 pub returns : goal.returns
-returns c = λ kind.
-    ⊎_elim
-    (λ low. c.loop-kind.invariant kind (omega arith))
-    (λ past. omega (arith, get_or_past c.args.stock.now kind 0 (omega arith)))
-    (cases_lt kind 8)
+returns c =
+    let all : IsTrue c.all.result ↔ All (λ count. count ≤ 16) c.args.stock.now = search rules in
+    fits_or_over c.args.stock.now c.all.result all
