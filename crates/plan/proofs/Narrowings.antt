@@ -1,9 +1,8 @@
 -- Windows that narrow with a start placed, as lists. Assumes nothing.
-use Rattle.std.proofs.Common.{◌≡◌, ℕ, zero, suc, ◌+◌, ◌<◌, ◌≤◌, List, length, get_or, set, ℤ, pos, ◌+ℤ◌, ◌-ℤ◌, ◌≤ℤ◌, Some, None, Option, sym, refl, ap, ◌∙◌, subst, add-one, arith, below_more}
+use Rattle.std.proofs.Common.{◌≡◌, ℕ, zero, suc, ◌+◌, ◌<◌, ◌≤◌, List, length, get_or, ℤ, pos, ◌+ℤ◌, ◌-ℤ◌, ◌≤ℤ◌, Some, None, Option, sym, refl, ap, ◌∙◌, subst, add-one, arith}
 use mathlib.Core.Logic.{∥∥₁_elim, ∥∥₁_prop}
 use Rattle.std.specs.Int.{int_max, int_min}
 use Rattle.std.specs.Option.{option_map}
-use Rattle.std.proofs.lemmas.List.{get_or-set_same, get_or-set_other}
 use Rattle.std.proofs.lemmas.Int.{ints}
 use Rattle.std.proofs.lemmas.Bool.{true≢false}
 use Rattle.plan.specs.Told.{Tells, Told, Within, Narrows, narrowed}
@@ -15,17 +14,6 @@ use Rattle.walks.proofs.LinkLaws.{step_present}
 use Rattle.windows.specs.Windows.{entry, with_start, Agrees, IsWindow}
 use Rattle.windows.proofs.Narrowing.{Windows, narrowed_windows}
 use Rattle.windows.proofs.Steps.{step_numbers}
-
--- a pass over a list that changes each element by its place
-module _ {X : Type 0} (change : ℕ → X → X) (old now : List X) (i : ℕ) (new none : X) (inside : i < length now) (later : (k : ℕ) → i ≤ k → get_or now k none ≡ get_or old k none) where
-  pub passed_more : ((k : ℕ) → k < i → get_or now k none ≡ change k (get_or old k none)) → new ≡ change i (get_or now i none) → (k : ℕ) → k < i + 1 → get_or (set now i new) k none ≡ change k (get_or old k none)
-  passed_more before here =
-      below_more _ _
-      (λ k low. get_or-set_other now i k new none (λ e. omega arith) ∙ before k low)
-      (get_or-set_same now i new none inside ∙ here ∙ ap (change i) (later i (omega arith)))
-
-  pub still_later : (k : ℕ) → i + 1 ≤ k → get_or (set now i new) k none ≡ get_or old k none
-  still_later k past = get_or-set_other now i k new none (λ e. omega arith) ∙ later k (omega arith)
 
 abbrev pub first_of : Option Window → ℤ
 first_of None = pos 0

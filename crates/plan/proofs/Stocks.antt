@@ -1,18 +1,11 @@
 -- A test of all counts of a stock. Assumes nothing.
-use Rattle.std.proofs.Common.{ℕ, suc, ◌≤◌, ◌↔◌, ◌⊎◌, Bool, true, false, List, [], ◌∷◌, length, IsTrue, MatchBool, refl, inl, inr, ⊎_elim, arith}
+use Rattle.std.proofs.Common.{ℕ, suc, ◌≤◌, ◌⊎◌, List, [], ◌∷◌, inl, inr, ⊎_elim, arith}
 use Rattle.std.specs.List.{All}
-use Rattle.std.proofs.lemmas.List.{get_or_past}
-use Rattle.std.proofs.lemmas.List.Elements.{All-nil, All-cons, All-get_or}
-use Rattle.std.proofs.lemmas.Bool.{cases_lt, false≢true}
-use Rattle.plan.specs.Plans.{CountsFit, CountOver}
+use Rattle.std.proofs.lemmas.List.Elements.{All-nil, All-cons}
+use Rattle.std.proofs.lemmas.Bool.{cases_lt}
+use Rattle.plan.specs.Plans.{CountOver}
 
-all_fit : (stock : List ℕ) → All (λ count. count ≤ 16) stock → CountsFit stock
-all_fit stock all kind =
-    ⊎_elim
-    (λ low. All-get_or (λ count. count ≤ 16) stock kind 0 low all)
-    (λ past. omega (arith, get_or_past stock kind 0 past))
-    (cases_lt kind (length stock))
-
+-- all counts are within the limit, or one is above it
 all_or_over : (stock : List ℕ) → All (λ count. count ≤ 16) stock ⊎ CountOver stock
 all_or_over [] = inl (All-nil (λ count. count ≤ 16))
 all_or_over (count ∷ stock) =
@@ -25,6 +18,6 @@ all_or_over (count ∷ stock) =
     (λ above. inr (record { kind = 0; over = omega arith }))
     (cases_lt count 17)
 
-pub fits_or_over : (stock : List ℕ) (fits : Bool) → IsTrue fits ↔ All (λ count. count ≤ 16) stock → MatchBool fits (CountsFit stock) (CountOver stock)
-fits_or_over stock true is = all_fit stock (is.0 refl)
-fits_or_over stock false is = ⊎_elim (λ all. absurd (false≢true (is.1 all))) (λ over. over) (all_or_over stock)
+-- one is above it where not all are within
+pub some_over : (stock : List ℕ) → ¬ All (λ count. count ≤ 16) stock → CountOver stock
+some_over stock not_all = ⊎_elim (λ all. absurd (not_all all)) (λ over. over) (all_or_over stock)

@@ -1,5 +1,5 @@
 // Which step is placed next.
-ghost use Rattle.std.specs.Prelude.{◌≡◌, ℕ, ◌+◌, ℤ, ◌-ℤ◌, Option};
+ghost use Rattle.std.specs.Prelude.{◌≡◌, ℕ, ◌+◌, ◌↔◌, ℤ, ◌-ℤ◌, ◌≤ℤ◌, IsTrue, Option};
 ghost use Rattle.plan.specs.Next.{slack_left, slacks_left, Leader, NamesNext};
 
 use super::window::Window;
@@ -29,8 +29,14 @@ fn slack_of(window: Option<Window>, step: Placed) -> Option<i64>
     window.map(slack)
 }
 
-// The step with the least slack, with one place more. At a tie the step held so far stays, which has the smaller
-// number.
+// Whether the step held so far, which has the smaller number, keeps the lead over a step with another slack.
+fn keeps_lead(held: i64, slack: i64) -> bool
+    ensures { IsTrue result ↔ (held ≤ℤ slack) }
+{
+    held <= slack
+}
+
+// The step with the least slack, with one place more.
 fn pick(held: Option<Candidate>, place: usize, slack: Option<i64>) -> Option<Candidate>
     ensures { (slacks : ℕ → Option ℤ) → slacks place ≡ slack
         → Leader slacks place held → Leader slacks (place + 1) result }
@@ -39,7 +45,7 @@ fn pick(held: Option<Candidate>, place: usize, slack: Option<i64>) -> Option<Can
         return held;
     };
     match held {
-        Some(candidate) if candidate.slack <= slack => held,
+        Some(candidate) if keeps_lead(candidate.slack, slack) => held,
         _ => Some(Candidate { place, slack }),
     }
 }

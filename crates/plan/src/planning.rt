@@ -1,6 +1,6 @@
 // The plan of a source's sheet: a start hour and a vessel for each step.
-ghost use Rattle.std.specs.Prelude.{◌≡◌, ◌≤◌, length, MatchBool};
-ghost use Rattle.plan.specs.Plans.{plan_number, CountsFit, CountOver, Wrote, of_chart, of_vessels, Room, Planned};
+ghost use Rattle.std.specs.Prelude.{◌≡◌, ◌≤◌, ◌↔◌, length, IsTrue, All};
+ghost use Rattle.plan.specs.Plans.{plan_number, CountsFit, Wrote, of_chart, of_vessels, Room, Planned};
 ghost use Rattle.sheet.specs.Waits.{IsChart};
 
 use super::fill::fill;
@@ -37,9 +37,9 @@ impl PlanRefusal {
     }
 }
 
-// Whether all counts of a stock are.
+// Whether all counts of a stock are within their limit.
 fn counts_fit(stock: &[u8; 8]) -> bool
-    ensures { MatchBool result (CountsFit stock.now) (CountOver stock.now) }
+    ensures { IsTrue result ↔ All (λ count. count ≤ 16) stock.now }
 {
     stock.iter().all(|&count| count <= 16)
 }

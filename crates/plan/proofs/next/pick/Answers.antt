@@ -6,5 +6,5 @@ use Rattle.plan.proofs.next.pick.Goals as goal
 
 pub returns-in_default-held : goal.returns-in_default-held
 returns-in_default-held c = λ slacks is lead.
-    let less = c.if-candidate-slack.false in
-    takes_lead slacks c.args.place c.in-Some.slack _ c.in-Some-held.candidate (omega (arith, ints)) (is ∙ c.in-Some.is) (subst (Leader slacks c.args.place) c.in-Some-held.is lead) (omega (arith, ints))
+    let kept = c.if-keeps_lead.ensures in
+    takes_lead slacks c.args.place c.in-Some.slack _ c.in-Some-held.candidate (omega (arith, ints)) (is ∙ c.in-Some.is) (subst (Leader slacks c.args.place) c.in-Some-held.is lead) (grind (arith, ints, kept))
