@@ -1,11 +1,11 @@
 -- Which classes a step covers, and how many steps cover a class. Assumes nothing.
-use Rattle.std.proofs.Common.{◌≡◌, ℕ, ◌+◌, ◌-◌, ◌%◌, ◌<◌, ◌≤◌, eqb, ltb, ◌⊎◌, List, length, get_or, take, drop, set, Decides, MatchBool, sym, refl, ap, ◌∙◌, subst, inl, inr, ⊎_elim, add-zero, mod-eq_of_lt, arith, below_more}
+use Rattle.std.proofs.Common.{◌≡◌, ℕ, ◌+◌, ◌-◌, ◌%◌, ◌<◌, ◌≤◌, eqb, ltb, ◌⊎◌, List, length, get_or, take, drop, set, Decides, sym, refl, ap, ◌∙◌, subst, inl, inr, ⊎_elim, add-zero, mod-eq_of_lt, arith, below_more}
 use Rattle.std.proofs.lemmas.List.FromFn.{fill_by_all}
 use Rattle.std.proofs.lemmas.List.{drop-drop, drop-set-lt, get_or-take, length-take-le, get_or-set_same, get_or-set_other}
 use Rattle.std.proofs.lemmas.Bool.{cases_Bool, ltb-true, ltb-false}
 use Rattle.std.proofs.lemmas.Bool.Decides.{Decides-eqb, Decides-below_or, same_from_decides}
 use Rattle.choose.specs.Classes.{class, Covers}
-use Rattle.vessels.proofs.Meeting.{Until, shares_from, shares_not, when_test}
+use Rattle.vessels.proofs.Meeting.{Until, shares_from, shares_not}
 use Rattle.vessels.specs.Sharing.{Shares}
 use Rattle.vessels.specs.declared.placed.Placed.{Placed}
 use Rattle.windows.specs.Crowds.{covers, crowd, crowds}
@@ -45,14 +45,11 @@ module _ (period c : ℕ) (is_class : c < period) (step : Placed) (from : ℕ) (
       shares_not period step (hour_at c) hours (period - hours) below (omega arith) until back ended (omega arith)
       (record { shared = c; is_class = is_class; by_one = covered; by_other = (0, omega arith, ap (λ x. x % period) (add-zero c) ∙ own) })
 
-  test_decides : Decides (ltb hours step.duration) (Covers period step.start step.duration c)
-  test_decides = (λ yes_so. during (ltb-true _ _ yes_so), λ covered. ⊎_elim (λ y. y) (λ n. absurd (after (ltb-false _ _ n) covered)) (cases_Bool (ltb hours step.duration)))
+  pub covers_when : Decides (ltb hours step.duration) (Covers period step.start step.duration c)
+  covers_when = (λ yes_so. during (ltb-true _ _ yes_so), λ covered. ⊎_elim (λ y. y) (λ n. absurd (after (ltb-false _ _ n) covered)) (cases_Bool (ltb hours step.duration)))
 
   pub covers_value : ltb hours step.duration ≡ covers period step.start step.duration c
-  covers_value = same_from_decides _ _ test_decides (covers_decides period step.start step.duration c)
-
-  pub covers_when : MatchBool (ltb hours step.duration) (Covers period step.start step.duration c) (Covers period step.start step.duration c → ⊥)
-  covers_when = when_test _ (λ yes_so. during (ltb-true _ _ yes_so)) (λ no_so. after (ltb-false _ _ no_so))
+  covers_value = same_from_decides _ _ covers_when (covers_decides period step.start step.duration c)
 
 -- one class more
 pub counted_more : (f : ℕ → ℕ) (xs : List ℕ) (i new : ℕ) → i < length xs → ((k : ℕ) → k < i → get_or xs k 0 ≡ f k) → new ≡ f i → (k : ℕ) → k < i + 1 → get_or (set xs i new) k 0 ≡ f k

@@ -4,3 +4,4 @@ pub mod Nexts
 pub mod Crowding
 pub mod Staging
 pub mod Settling
+pub mod Stocks

@@ -1,14 +1,12 @@
 -- Windows that narrow with a start placed, as lists. Assumes nothing.
-use Rattle.std.proofs.Common.{◌≡◌, ℕ, zero, suc, ◌+◌, ◌<◌, ◌≤◌, List, length, get_or, take, set, ℤ, pos, ◌+ℤ◌, ◌-ℤ◌, ◌≤ℤ◌, Some, None, Option, sym, refl, ap, ◌∙◌, subst, add-one, arith, below_more}
+use Rattle.std.proofs.Common.{◌≡◌, ℕ, zero, suc, ◌+◌, ◌<◌, ◌≤◌, List, length, get_or, ℤ, pos, ◌+ℤ◌, ◌-ℤ◌, ◌≤ℤ◌, Some, None, Option, sym, refl, ap, ◌∙◌, subst, add-one, arith}
 use mathlib.Core.Logic.{∥∥₁_elim, ∥∥₁_prop}
 use Rattle.std.specs.Int.{int_max, int_min}
 use Rattle.std.specs.Option.{option_map}
-use Rattle.std.proofs.lemmas.List.{get_or-set_same, get_or-set_other}
 use Rattle.std.proofs.lemmas.Int.{ints}
 use Rattle.std.proofs.lemmas.Bool.{true≢false}
 use Rattle.plan.specs.Told.{Tells, Told, Within, Narrows, narrowed}
 use Rattle.plan.specs.declared.window.Window.{Window}
-use Rattle.plan.proofs.Openings.{entry_front}
 use Rattle.sheet.specs.Limits.{Sound}
 use Rattle.sheet.specs.Sheets.{RuleSheet, HasStep, numbered}
 use Rattle.sheet.specs.Timetables.{Timetable, Lawful}
@@ -16,17 +14,6 @@ use Rattle.walks.proofs.LinkLaws.{step_present}
 use Rattle.windows.specs.Windows.{entry, with_start, Agrees, IsWindow}
 use Rattle.windows.proofs.Narrowing.{Windows, narrowed_windows}
 use Rattle.windows.proofs.Steps.{step_numbers}
-
--- a pass over a list that changes each element by its place
-module _ {X : Type 0} (change : ℕ → X → X) (old now : List X) (i : ℕ) (new none : X) (inside : i < length now) (later : (k : ℕ) → i ≤ k → get_or now k none ≡ get_or old k none) where
-  pub passed_more : ((k : ℕ) → k < i → get_or now k none ≡ change k (get_or old k none)) → new ≡ change i (get_or now i none) → (k : ℕ) → k < i + 1 → get_or (set now i new) k none ≡ change k (get_or old k none)
-  passed_more before here =
-      below_more _ _
-      (λ k low. get_or-set_other now i k new none (λ e. omega arith) ∙ before k low)
-      (get_or-set_same now i new none inside ∙ here ∙ ap (change i) (later i (omega arith)))
-
-  pub still_later : (k : ℕ) → i + 1 ≤ k → get_or (set now i new) k none ≡ get_or old k none
-  still_later k past = get_or-set_other now i k new none (λ e. omega arith) ∙ later k (omega arith)
 
 abbrev pub first_of : Option Window → ℤ
 first_of None = pos 0
@@ -77,32 +64,20 @@ within_of : (windows : List (Option Window)) (n : ℕ) (hour : ℤ) (o : Option 
 within_of windows n hour None is s placed absent there within = absurd (true≢false (sym there ∙ absent))
 within_of windows n hour (Some w) is s placed told there within = within w is
 
-narrowed_front : (chart : List ℤ) (n hour m : ℕ) → n < 32 → m < 32 → (w : Window) → narrowed (take 1024 chart) n hour m w ≡ narrowed chart n hour m w
-narrowed_front chart n hour m row column w = λ i. record {
-  first = int_max w.first (pos hour +ℤ entry_front chart n m row column i);
-  last = int_min w.last (pos hour -ℤ entry_front chart m n column row i);
-}
-
-mapped_same : (f g : Window → Window) → ((w : Window) → f w ≡ g w) → (o : Option Window) → option_map f o ≡ option_map g o
-mapped_same f g same None = refl
-mapped_same f g same (Some w) = ap Some (same w)
-
-pub narrows : (chart : List ℤ) (n hour : ℕ) (before after : List (Option Window)) → n < 32 → length after ≡ 31
+pub narrows : (chart : List ℤ) (n hour : ℕ) (before after : List (Option Window)) → length after ≡ 31
     → ((i : ℕ) → i < 31 → get_or after i None ≡ option_map (narrowed chart n hour (i + 1)) (get_or before i None))
-    → Narrows (take 1024 chart) n hour before after
-narrows chart n hour before after row long each s ok is placed told waiting within =
+    → Narrows chart n hour before after
+narrows chart n hour before after long each s ok is placed told waiting within =
     let there = waiting.there in
     let number = step_numbers s ok n there in
     let in_window = within_of before n (pos hour) (numbered None before n) refl s placed (told_at s placed before told n number.0 number.1) there within in
-    let windows = narrowed_windows s ok (take 1024 chart) is placed (λ m. first_of (numbered None before m)) (λ m. last_of (numbered None before m)) (told_windows s ok placed before told n there) n there (pos hour) in_window.0 in_window.1 waiting.not_placed in
+    let windows = narrowed_windows s ok chart is placed (λ m. first_of (numbered None before m)) (λ m. last_of (numbered None before m)) (told_windows s ok placed before told n there) n there (pos hour) in_window.0 in_window.1 waiting.not_placed in
     let new = with_start placed n (pos hour) in
     record {
       long = long;
       each = λ i low.
-          let same : option_map (narrowed (take 1024 chart) n hour (i + 1)) (get_or before i None) ≡ get_or after i None =
-          mapped_same _ _ (narrowed_front chart n hour (i + 1) row (omega arith)) (get_or before i None) ∙ sym (each i low) in
           let next : numbered None before (i + 1) ≡ get_or before i None = ap (numbered None before) (add-one i) in
-          subst (Tells s new (i + 1)) same
-          (tells_after s placed new (take 1024 chart) n hour (i + 1) (get_or before i None) (told.each i low)
-          (λ here. subst (λ o. IsWindow s new (i + 1) (int_max (first_of o) (pos hour +ℤ entry (take 1024 chart) n (i + 1))) (int_min (last_of o) (pos hour -ℤ entry (take 1024 chart) (i + 1) n))) next (windows (i + 1) (step_present s (i + 1) here))));
+          subst (Tells s new (i + 1)) (sym (each i low))
+          (tells_after s placed new chart n hour (i + 1) (get_or before i None) (told.each i low)
+          (λ here. subst (λ o. IsWindow s new (i + 1) (int_max (first_of o) (pos hour +ℤ entry chart n (i + 1))) (int_min (last_of o) (pos hour -ℤ entry chart (i + 1) n))) next (windows (i + 1) (step_present s (i + 1) here))));
     }

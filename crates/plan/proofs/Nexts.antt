@@ -1,10 +1,13 @@
 -- The step with the least slack is the next step. Assumes nothing.
-use Rattle.std.proofs.Common.{◌≡◌, ℕ, ◌+◌, ◌-◌, ◌<◌, Bool, true, false, cond, List, length, get_or, ℤ, pos, ◌-ℤ◌, ◌<ℤ◌, is_some, Some, None, Option, sym, refl, ap, ◌∙◌, subst, ⊎_elim, add-one, arith}
+use Rattle.std.proofs.Common.{◌≡◌, ℕ, ◌+◌, ◌-◌, ◌<◌, Bool, true, false, cond, List, length, get_or, ℤ, pos, ◌-ℤ◌, ◌<ℤ◌, is_some, Some, None, Option, sym, refl, ap, ◌∙◌, subst, ⊎_elim, zero-add, add-one, arith}
 use Rattle.std.specs.Option.{option_map}
+use Rattle.std.specs.List.{enumerate_from, zip}
 use Rattle.std.proofs.lemmas.List.{get_or_default}
+use Rattle.std.proofs.lemmas.List.FromFn.{get_or-enumerate_from, length-enumerate_from}
+use Rattle.std.proofs.lemmas.Slice.Zip.{get_or-zip, length-zip}
 use Rattle.std.proofs.lemmas.Int.{ints}
 use Rattle.std.proofs.lemmas.Bool.{cases_lt, true≢false, false≢true}
-use Rattle.plan.specs.Next.{slacks_left, Leads, Leader, NamesNext}
+use Rattle.plan.specs.Next.{slack_left, slacks_left, Leads, Leader, NamesNext}
 use Rattle.plan.specs.Told.{Tells, Told}
 use Rattle.plan.specs.declared.next.Candidate.{Candidate}
 use Rattle.plan.specs.declared.window.Window.{Window}
@@ -35,6 +38,26 @@ takes_lead slacks place hours told held so is lead less = record {
       (cases_lt i place);
   first = λ i low h e. let old = lead.fewest i low h e in omega (arith, ints);
 }
+
+-- what a pass over windows and steps with their places gives at the i-th turn
+module _ (windows : List (Option Window)) (placed : List Placed) (all_windows : length windows ≡ 31) (all_steps : length placed ≡ 31) where
+  pub length_rows : length (enumerate_from 0 (zip windows placed)) ≡ 31
+  length_rows = omega (arith, length-enumerate_from 0 (zip windows placed), length-zip windows placed)
+
+  module _ (i place : ℕ) (window : Option Window) (step : Placed) (low : i < length (enumerate_from 0 (zip windows placed))) (is : (place, (window, step)) ≡ get_or (enumerate_from 0 (zip windows placed)) i (place, (window, step))) where
+    here : ◌≡◌ {A = ℕ × (Option Window × Placed)} (place, (window, step)) (0 + i, (get_or windows i window, get_or placed i step))
+    here =
+        is ∙ get_or-enumerate_from 0 (zip windows placed) i (place, (window, step)) (omega (arith, length-enumerate_from 0 (zip windows placed)))
+        ∙ ap (λ row. (0 + i, row)) (get_or-zip windows placed i (window, step) (omega (arith, length_rows)) (omega (arith, length_rows)))
+
+    pub place_at : place ≡ i
+    place_at = ap (λ row. row.0) here ∙ zero-add i
+
+    pub slack_at : slack_left window step ≡ slacks_left windows placed i
+    slack_at =
+        ap (λ row. slack_left row.1.0 row.1.1) here
+        ∙ ap (λ w. slack_left w (get_or placed i step)) (get_or_default windows i window None (omega (arith, length_rows)))
+        ∙ ap (slack_left (get_or windows i None)) (get_or_default placed i step (record { start = 0; duration = 0; kind = 0 }) (omega (arith, length_rows)))
 
 -- a slack is that of a step which waits
 slack_tells : (s : RuleSheet) (t : Timetable) (n : ℕ) (o : Option Window) (given : Bool) (h : ℤ) → Tells s t n o → cond given None (option_map (λ w. w.last -ℤ w.first) o) ≡ Some h → (given ≡ false) × HasStep s n × IsSlack s t n h
@@ -73,12 +96,12 @@ module _ (windows : List (Option Window)) (placed : List Placed) (long : length 
         (sym (given_at (n - 1) low) ∙ ap (λ m. is_some (starts placed m)) same ∙ waiting.not_placed) in
         (n - 1, low, same, tells.0, tells.1)
 
-  pub none_next : Leader (slacks_left windows placed) 31 None → NamesNext windows placed None
+  none_next : Leader (slacks_left windows placed) 31 None → NamesNext windows placed None
   none_next none s ok told n waiting =
       let found = waiting_at s ok told n waiting in
       absurd (true≢false (sym (ap is_some found.4) ∙ none found.0 found.1))
 
-  pub leads_next : (held : Candidate) → Leads (slacks_left windows placed) 31 held → NamesNext windows placed (Some (held.place + 1))
+  leads_next : (held : Candidate) → Leads (slacks_left windows placed) 31 held → NamesNext windows placed (Some (held.place + 1))
   leads_next held lead s ok told =
       let here = slack_here s ok told held.place lead.inside held.slack lead.is in
       record {
@@ -99,3 +122,7 @@ module _ (windows : List (Option Window)) (placed : List Placed) (long : length 
             let low = lead.first found.0 (omega arith) found.3 found.4 in
             omega (arith, ints);
       }
+
+  pub names_next : (held : Option Candidate) → Leader (slacks_left windows placed) 31 held → NamesNext windows placed (option_map (λ lead. lead.place + 1) held)
+  names_next None none = none_next none
+  names_next (Some held) lead = leads_next held lead

@@ -1,10 +1,9 @@
 -- From steps filled in to a plan written. Assumes nothing.
-use Rattle.std.proofs.Common.{◌≡◌, ℕ, ◌<◌, ◌≤◌, List, ◌++◌, length, get_or, take, drop, ℤ, is_some, Some, None, Err, Option, unwrap_or, sym, refl, ap, ◌∙◌, subst, arith}
-use Rattle.std.proofs.lemmas.List.{length-take-le, length-map, get_or-take, get_or-map, take-append-drop, ext_get_or}
+use Rattle.std.proofs.Common.{◌≡◌, ℕ, ◌<◌, List, ◌++◌, length, get_or, drop, is_some, Some, None, Err, Option, unwrap_or, sym, refl, ap, ◌∙◌, subst, arith}
+use Rattle.std.proofs.lemmas.List.{length-map, get_or-map, ext_get_or}
 use Rattle.std.proofs.lemmas.Bool.{true≢false, false≢true}
 use Rattle.choose.specs.Choosing.{HourRule}
-use Rattle.plan.specs.Plans.{CountsFit, start_hours, Settled, Written, Wrote, Buffers, Room, Planned, of_chart}
-use Rattle.plan.specs.declared.planning.PlanRefusal.{PlanRefusal}
+use Rattle.plan.specs.Plans.{start_hours, Settled, Written, Wrote}
 use Rattle.sheet.specs.Sheets.{RuleSheet}
 use Rattle.sheet.specs.Timetables.{Lawful}
 use Rattle.vessels.proofs.Outcomes.{outcome_only}
@@ -14,23 +13,17 @@ use Rattle.vessels.specs.Vessels.{at, Outcome, all, missing, AllNumbered, GivesO
 use Rattle.vessels.specs.declared.placed.Placed.{Placed}
 use Rattle.vessels.specs.declared.refusals.Refusal.{Refusal}
 use Rattle.vessels.specs.declared.refusals.Refusal.TheVariants.{TooShort as Short, NoVessel as Lacks}
-use Rattle.waits.specs.Charts.{Charted}
-use Rattle.waits.specs.declared.ChartRefusal.{ChartRefusal}
-use Rattle.waits.specs.declared.ChartRefusal.TheVariants.{TooShort as NoRoom, NoTimetable as NothingLawful}
 use Rattle.brews.specs.Brews.{HeldOnce}
 use Rattle.windows.specs.Placing.{Filled, starts as starts_of}
 use Rattle.windows.proofs.Course.{filled_unique}
 
-pub starts_written : (placed : List Placed) (old new : List ℕ) → length placed ≡ 31 → 31 ≤ length new → ((i : ℕ) → i < 31 → get_or new i 0 ≡ (at placed i).start) → drop 31 new ≡ drop 31 old → new ≡ start_hours placed ++ drop 31 old
-starts_written placed old new long room each rest =
-    let front_long = length-take-le 31 new room in
-    let hours_long = length-map placed (λ (step : Placed). step.start) in
-    let front : take 31 new ≡ start_hours placed =
-    ext_get_or 0 (take 31 new) (start_hours placed) (omega arith)
+-- start hours read place by place
+pub hours_are : (placed : List Placed) (hours : List ℕ) → length placed ≡ 31 → length hours ≡ 31 → ((i : ℕ) → i < 31 → get_or hours i 0 ≡ (at placed i).start) → hours ≡ start_hours placed
+hours_are placed hours long as_long each =
+    ext_get_or 0 hours (start_hours placed) (as_long ∙ sym (length-map placed (λ (step : Placed). step.start) ∙ long))
     (λ i low.
     let inside : i < 31 = omega arith in
-    get_or-take 31 new i 0 inside ∙ each i inside ∙ sym (get_or-map (λ (step : Placed). step.start) placed i (record { start = 0; duration = 0; kind = 0 }) 0 (omega arith))) in
-    sym (take-append-drop 31 new) ∙ ap (λ xs. xs ++ drop 31 new) front ∙ ap (λ xs. start_hours placed ++ xs) rest
+    each i inside ∙ sym (get_or-map (λ (step : Placed). step.start) placed i (record { start = 0; duration = 0; kind = 0 }) 0 (omega arith)))
 
 pub settled : (s : RuleSheet) (rule : HourRule) (stock : List ℕ) (placed : List Placed) (outcome : Outcome) → Filled s rule placed → GivesOut s.period stock placed outcome → Settled s rule stock placed outcome
 settled s rule stock placed outcome filled gives = record {
@@ -81,14 +74,3 @@ module _ (s : RuleSheet) (rule : HourRule) (stock : List ℕ) (placed : List Pla
             starts_kept = refl;
             vessels_kept = leaves;
           }
-
--- no plan for want of a lawful timetable, once the buffers have room and the counts fit
-module _ (s : RuleSheet) (rule : HourRule) (stock : List ℕ) (before after : Buffers) (room : Room before) (counts : CountsFit stock) where
-  pub no_plan_looped : (chart chart_after : List ℤ) → 1024 ≤ length chart → (refusal : ChartRefusal)
-      → Charted s (record { hours = before.hours; counted = before.counted; chart = chart; codes = before.codes }) (record { hours = after.hours; counted = after.counted; chart = chart_after; codes = after.codes }) (Err refusal)
-      → after.starts ≡ before.starts → after.vessels ≡ before.vessels → (r : PlanRefusal) → r ≡ of_chart refusal → Planned s rule stock before after (Err r)
-  no_plan_looped chart chart_after long NoRoom charted starts vessels r is =
-      absurd (charted.0 (record { hours = room.hours; counted = room.counted; chart = long; codes = room.codes }))
-  no_plan_looped chart chart_after long (NothingLawful count) charted starts vessels r is =
-      subst (λ (r : PlanRefusal). Planned s rule stock before after (Err r)) (sym is)
-      (record { room = room; counts = counts; none = charted.none; loop = charted.loop; hours = charted.hours; counted = charted.counted; starts = starts; vessels = vessels })

@@ -1,5 +1,5 @@
 -- The next step, read off the windows. Assumes nothing.
-use Rattle.std.specs.Prelude.{◌≡◌, ℕ, ◌<◌, false, cond, List, ℤ, ◌-ℤ◌, ◌≤ℤ◌, ◌<ℤ◌, is_some, Some, None, Option, MatchOption, slice_index_or}
+use Rattle.std.specs.Prelude.{◌≡◌, ℕ, ◌<◌, false, if◌then◌else◌, List, ℤ, ◌-ℤ◌, ◌≤ℤ◌, ◌<ℤ◌, is_some, Some, None, Option, MatchOption, slice_index_or}
 use Rattle.std.specs.Option.{option_map}
 use Rattle.plan.specs.Told.{Told}
 use Rattle.plan.specs.declared.next.Candidate.{Candidate}
@@ -14,7 +14,7 @@ use Rattle.windows.specs.Windows.{Waiting, IsNext}
 
 -- The slack of a step that waits; none if it is absent or placed.
 abbrev pub slack_left : Option Window → Placed → Option ℤ
-slack_left window step = cond (is_placed step) None (option_map (λ w. w.last -ℤ w.first) window)
+slack_left window step = (if is_placed step then None else option_map (λ w. w.last -ℤ w.first) window)
 
 -- The slacks of the steps that wait, by their places.
 abbrev pub slacks_left : List (Option Window) → List Placed → ℕ → Option ℤ

@@ -13,7 +13,8 @@ use vessels::Placed;
 
 // An hour of a window in 16 bits.
 fn in_16_bits(hour: i32) -> u16
-    requires { (pos 0 ≤ℤ hour) × (hour ≤ℤ pos 2000) }
+    requires from_zero { pos 0 ≤ℤ hour }
+    requires small { hour ≤ℤ pos 2000 }
     ensures { pos result ≡ hour }
 {
     hour as u16
@@ -29,7 +30,14 @@ fn ask<C: Chooser>(
     period: u16,
 ) -> u16
     requires { period ≤ 999 }
-    ensures { result ≡ (C.Chooser.rule chooser.now).hour (record { step = step; duration = duration; first = window.0; last = window.1; crowd = take period counts.now }) }
+    ensures { result ≡ (C.Chooser.rule chooser.now).hour
+        (record {
+          step = step;
+          duration = duration;
+          first = window.0;
+          last = window.1;
+          crowd = take period counts.now;
+        }) }
 {
     chooser.choose(Shown {
         step,
@@ -49,7 +57,9 @@ fn choose_hour<S: Source, C: Chooser>(
     told: (u16, u8),
     window: (u16, u16),
 ) -> u16
-    ensures { result ≡ (C.Chooser.rule chooser.now).hour (view_of (S.Source.sheet source.now).told placed.now step told.0 told.1 window.0 window.1) }
+    ensures { result ≡ (C.Chooser.rule chooser.now).hour
+        (view_of (S.Source.sheet source.now).told placed.now step told.0 told.1
+        window.0 window.1) }
 {
     let period = source.period();
     let mut counts = [0; 999];
@@ -67,14 +77,16 @@ pub(crate) fn choose_start<S: Source, C: Chooser>(
 ) -> Placed
     requires told { Told (S.Source.sheet source.now).told (starts placed.now) windows.now }
     requires waiting { Waiting (S.Source.sheet source.now).told (starts placed.now) step }
-    requires number { (0 < step) × (step ≤ 31) }
-    ensures { Chosen (S.Source.sheet source.now).told (C.Chooser.rule chooser.now) placed.now step result }
+    requires from_one { 0 < step }
+    requires to_31 { step ≤ 31 }
+    ensures { Chosen (S.Source.sheet source.now).told (C.Chooser.rule chooser.now)
+        placed.now step result }
 {
     let Some(told) = source.step(step) else {
-        return unreachable();
+        unreachable!()
     };
     let Some(window) = windows[step as usize - 1] else {
-        return unreachable();
+        unreachable!()
     };
     let hours = (in_16_bits(window.first), in_16_bits(window.last));
     Placed {

@@ -1,5 +1,5 @@
 // How many placed steps of a kind cover each class.
-ghost use Rattle.std.specs.Prelude.{◌≡◌, ◌+◌, ◌<◌, ◌≤◌, ◌⊎◌, take, drop, MatchBool};
+ghost use Rattle.std.specs.Prelude.{◌≡◌, ◌+◌, ◌<◌, ◌≤◌, ◌⊎◌, ◌↔◌, take, drop, IsTrue};
 ghost use Rattle.choose.specs.Classes.{class, Covers};
 ghost use Rattle.windows.specs.Crowds.{covers, counts, crowd, crowds};
 
@@ -32,7 +32,7 @@ fn hours_until(from: u16, to: u16, period: u16) -> u16
 fn covers_class(step: Placed, class: u16, period: u16) -> bool
     requires { class < period }
     ensures value { result ≡ covers period step.start step.duration class }
-    ensures covered { MatchBool result (Covers period step.start step.duration class) (Covers period step.start step.duration class → ⊥) }
+    ensures covered { IsTrue result ↔ (Covers period step.start step.duration class) }
 {
     hours_until(class_of(step.start, period), class, period) < step.duration
 }
@@ -50,13 +50,10 @@ fn count(placed: &[Placed; 31], period: u16, kind: u8, class: u16) -> u8
     requires { class < period }
     ensures { result ≡ crowd period kind placed.now class }
 {
-    let mut steps = 0;
-    for i in 0..31usize {
-        if is_counted(placed[i], period, kind, class) {
-            steps += 1;
-        }
-    }
-    steps
+    placed
+        .iter()
+        .filter(|step| is_counted(**step, period, kind, class))
+        .count() as u8
 }
 
 // Counts for each class of a period how many placed steps of a kind cover it. What lies behind the counts stays.

@@ -1,5 +1,5 @@
 // Placing all steps, one by one.
-ghost use Rattle.std.specs.Prelude.{◌<◌, ◌≤◌, length, take};
+ghost use Rattle.std.specs.Prelude.{◌<◌, ◌≤◌};
 ghost use Rattle.plan.specs.Stages.{Stage, left_over};
 ghost use Rattle.sheet.specs.Waits.{IsChart};
 ghost use Rattle.windows.specs.Placing.{starts, Filled};
@@ -17,18 +17,20 @@ use vessels::{ABSENT, Placed};
 // Places the next step.
 fn place<S: Source, C: Chooser>(
     source: &S,
-    chart: &[i16],
+    chart: &[i16; 1024],
     chooser: &C,
     windows: &mut [Option<Window>; 31],
     placed: &mut [Placed; 31],
     step: u8,
 )
-    requires room { 1024 ≤ length chart.now }
-    requires chart { IsChart (S.Source.sheet source.now).told (take 1024 chart.now) }
-    requires stage { Stage (S.Source.sheet source.now).told (C.Chooser.rule chooser.now) windows.old placed.old }
+    requires chart { IsChart (S.Source.sheet source.now).told chart.now }
+    requires stage { Stage (S.Source.sheet source.now).told (C.Chooser.rule chooser.now)
+        windows.old placed.old }
     requires next { IsNext (S.Source.sheet source.now).told (starts placed.old) step }
-    requires number { (0 < step) × (step ≤ 31) }
-    ensures stage { Stage (S.Source.sheet source.now).told (C.Chooser.rule chooser.now) windows.new placed.new }
+    requires from_one { 0 < step }
+    requires to_31 { step ≤ 31 }
+    ensures stage { Stage (S.Source.sheet source.now).told (C.Chooser.rule chooser.now)
+        windows.new placed.new }
     ensures fewer { left_over placed.new < left_over placed.old }
 {
     let chosen = choose_start(source, chooser, windows, placed, step);
@@ -37,9 +39,12 @@ fn place<S: Source, C: Chooser>(
 }
 
 // Places all steps of the sheet by the chooser's rule. An absent step is left without a start.
-pub(crate) fn fill<S: Source, C: Chooser>(source: &S, chart: &[i16], chooser: &C) -> [Placed; 31]
-    requires room { 1024 ≤ length chart.now }
-    requires chart { IsChart (S.Source.sheet source.now).told (take 1024 chart.now) }
+pub(crate) fn fill<S: Source, C: Chooser>(
+    source: &S,
+    chart: &[i16; 1024],
+    chooser: &C,
+) -> [Placed; 31]
+    requires { IsChart (S.Source.sheet source.now).told chart.now }
     ensures { Filled (S.Source.sheet source.now).told (C.Chooser.rule chooser.now) result }
 {
     let mut windows = open_windows(source, chart);

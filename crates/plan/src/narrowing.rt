@@ -1,5 +1,5 @@
 // How the windows narrow when a step is placed.
-ghost use Rattle.std.specs.Prelude.{◌≡◌, ℕ, ◌+◌, ◌<◌, ◌≤◌, length, take, pos, ◌+ℤ◌, ◌-ℤ◌, None, slice_index_or};
+ghost use Rattle.std.specs.Prelude.{◌≡◌, ℕ, ◌+◌, ◌<◌, length, pos, ◌+ℤ◌, ◌-ℤ◌, None, slice_index_or};
 ghost use Rattle.std.specs.Int.{int_max, int_min};
 ghost use Rattle.std.specs.Option.{option_map};
 ghost use Rattle.plan.specs.Told.{narrowed, Narrows};
@@ -22,8 +22,15 @@ fn sooner(last: i32, hour: u16, wait: i16) -> i32
 }
 
 // The window of a step after another was placed at an hour.
-fn narrow_window(chart: &[i16], window: Window, placed: usize, hour: u16, step: usize) -> Window
-    requires { (1024 ≤ length chart.now) × ((placed < 32) × (step < 32)) }
+fn narrow_window(
+    chart: &[i16; 1024],
+    window: Window,
+    placed: usize,
+    hour: u16,
+    step: usize,
+) -> Window
+    requires placed { placed < 32 }
+    requires step { step < 32 }
     ensures first { result.first ≡ (narrowed chart.now placed hour step window).first }
     ensures last { result.last ≡ (narrowed chart.now placed hour step window).last }
 {
@@ -35,37 +42,38 @@ fn narrow_window(chart: &[i16], window: Window, placed: usize, hour: u16, step: 
 
 // The same where the step may be absent.
 fn narrow_at(
-    chart: &[i16],
+    chart: &[i16; 1024],
     window: Option<Window>,
     placed: usize,
     hour: u16,
     step: usize,
 ) -> Option<Window>
-    requires { (1024 ≤ length chart.now) × ((placed < 32) × (step < 32)) }
+    requires placed { placed < 32 }
+    requires step { step < 32 }
     ensures { result ≡ option_map (narrowed chart.now placed hour step) window }
 {
-    match window {
-        Some(window) => Some(narrow_window(chart, window, placed, hour, step)),
-        None => None,
-    }
+    window.map(|window| narrow_window(chart, window, placed, hour, step))
 }
 
 // The same for all steps, those placed already among them.
-fn narrow_each(chart: &[i16], windows: &mut [Option<Window>; 31], placed: usize, hour: u16)
-    requires { (1024 ≤ length chart.now) × (placed < 32) }
+fn narrow_each(chart: &[i16; 1024], windows: &mut [Option<Window>; 31], placed: usize, hour: u16)
+    requires { placed < 32 }
     ensures long { length windows.new ≡ 31 }
-    ensures each { (i : ℕ) → i < 31 → slice_index_or windows.new i None ≡ option_map (narrowed chart.now placed hour (i + 1)) (slice_index_or windows.old i None) }
+    ensures each { (i : ℕ) → i < 31
+        → slice_index_or windows.new i None
+        ≡ option_map (narrowed chart.now placed hour (i + 1))
+        (slice_index_or windows.old i None) }
 {
-    for i in 0..31usize {
-        windows[i] = narrow_at(chart, windows[i], placed, hour, i + 1);
+    for (i, window) in windows.iter_mut().enumerate() {
+        *window = narrow_at(chart, *window, placed, hour, i + 1);
     }
 }
 
 // Narrows the windows of all steps after one of them was placed at an hour of its window. That step is left the hour
 // alone.
-pub(crate) fn narrow(chart: &[i16], windows: &mut [Option<Window>; 31], placed: u8, hour: u16)
-    requires { (1024 ≤ length chart.now) × (placed < 32) }
-    ensures { Narrows (take 1024 chart.now) placed hour windows.old windows.new }
+pub(crate) fn narrow(chart: &[i16; 1024], windows: &mut [Option<Window>; 31], placed: u8, hour: u16)
+    requires { placed < 32 }
+    ensures { Narrows chart.now placed hour windows.old windows.new }
 {
     narrow_each(chart, windows, placed as usize, hour);
 }

@@ -1,5 +1,5 @@
 // Which step is placed next.
-ghost use Rattle.std.specs.Prelude.{◌≡◌, ℕ, ◌+◌, ◌<◌, ℤ, ◌-ℤ◌, ◌≤ℤ◌, ◌<ℤ◌, None, MatchBool, Option};
+ghost use Rattle.std.specs.Prelude.{◌≡◌, ℕ, ◌+◌, ◌↔◌, ℤ, ◌-ℤ◌, ◌≤ℤ◌, IsTrue, Option};
 ghost use Rattle.plan.specs.Next.{slack_left, slacks_left, Leader, NamesNext};
 
 use super::window::Window;
@@ -26,39 +26,27 @@ fn slack_of(window: Option<Window>, step: Placed) -> Option<i64>
     if step.start != ABSENT {
         return None;
     }
-    match window {
-        Some(window) => Some(slack(window)),
-        None => None,
-    }
+    window.map(slack)
 }
 
-// Whether so many hours are fewer than those of the step held so far, which has the smaller number.
-fn is_fewer(hours: i64, held: i64) -> bool
-    ensures { MatchBool result (hours <ℤ held) (held ≤ℤ hours) }
+// Whether the step held so far, which has the smaller number, keeps the lead over a step with another slack.
+fn keeps_lead(held: i64, slack: i64) -> bool
+    ensures { IsTrue result ↔ (held ≤ℤ slack) }
 {
-    hours < held
+    held <= slack
 }
 
 // The step with the least slack, with one place more.
 fn pick(held: Option<Candidate>, place: usize, slack: Option<i64>) -> Option<Candidate>
-    ensures { (slacks : ℕ → Option ℤ) → slacks place ≡ slack → Leader slacks place held → Leader slacks (place + 1) result }
+    ensures { (slacks : ℕ → Option ℤ) → slacks place ≡ slack
+        → Leader slacks place held → Leader slacks (place + 1) result }
 {
-    let Some(hours) = slack else {
+    let Some(slack) = slack else {
         return held;
     };
-    let Some(candidate) = held else {
-        return Some(Candidate {
-            place,
-            slack: hours,
-        });
-    };
-    if is_fewer(hours, candidate.slack) {
-        Some(Candidate {
-            place,
-            slack: hours,
-        })
-    } else {
-        held
+    match held {
+        Some(candidate) if keeps_lead(candidate.slack, slack) => held,
+        _ => Some(Candidate { place, slack }),
     }
 }
 
@@ -67,8 +55,8 @@ fn leader(windows: &[Option<Window>; 31], placed: &[Placed; 31]) -> Option<Candi
     ensures { Leader (slacks_left windows.now placed.now) 31 result }
 {
     let mut held = None;
-    for place in 0..31usize {
-        held = pick(held, place, slack_of(windows[place], placed[place]));
+    for (place, (window, step)) in windows.iter().zip(placed).enumerate() {
+        held = pick(held, place, slack_of(*window, *step));
     }
     held
 }
@@ -77,8 +65,5 @@ fn leader(windows: &[Option<Window>; 31], placed: &[Placed; 31]) -> Option<Candi
 pub(crate) fn next_step(windows: &[Option<Window>; 31], placed: &[Placed; 31]) -> Option<u8>
     ensures { NamesNext windows.now placed.now result }
 {
-    match leader(windows, placed) {
-        Some(candidate) => Some(candidate.place as u8 + 1),
-        None => None,
-    }
+    leader(windows, placed).map(|candidate| candidate.place as u8 + 1)
 }

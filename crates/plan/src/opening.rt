@@ -1,5 +1,5 @@
 // The windows of all steps before any is placed.
-ghost use Rattle.std.specs.Prelude.{◌≡◌, ◌<◌, ◌≤◌, length, take, neg_ℤ};
+ghost use Rattle.std.specs.Prelude.{◌≡◌, ◌<◌, neg_ℤ};
 ghost use Rattle.plan.specs.Told.{Tells, Told};
 ghost use Rattle.sheet.specs.Waits.{IsChart};
 ghost use Rattle.windows.specs.Windows.{entry, nothing_placed};
@@ -8,8 +8,9 @@ use super::window::Window;
 use sheet::Source;
 
 // The wait from one place to another: the least hours by which the start of the second lies after that of the first.
-pub(crate) fn wait(chart: &[i16], from: usize, to: usize) -> i16
-    requires { (1024 ≤ length chart.now) × ((from < 32) × (to < 32)) }
+pub(crate) fn wait(chart: &[i16; 1024], from: usize, to: usize) -> i16
+    requires from { from < 32 }
+    requires to { to < 32 }
     ensures { result ≡ entry chart.now from to }
 {
     chart[32 * from + to]
@@ -24,8 +25,8 @@ fn before_zero(wait: i16) -> i32
 
 // With nothing placed, a step starts no sooner than its wait from hour zero, and hour zero is no sooner than its wait
 // from the step.
-fn open_window(chart: &[i16], step: usize) -> Window
-    requires { (1024 ≤ length chart.now) × (step < 32) }
+fn open_window(chart: &[i16; 1024], step: usize) -> Window
+    requires { step < 32 }
     ensures first { result.first ≡ entry chart.now 0 step }
     ensures last { result.last ≡ neg_ℤ (entry chart.now step 0) }
 {
@@ -36,26 +37,22 @@ fn open_window(chart: &[i16], step: usize) -> Window
 }
 
 // The window of a step with nothing placed, or none for an absent step.
-fn open_at<S: Source>(source: &S, chart: &[i16], step: u8) -> Option<Window>
-    requires room { (1024 ≤ length chart.now) × ((0 < step) × (step < 32)) }
-    requires chart { IsChart (S.Source.sheet source.now).told (take 1024 chart.now) }
+fn open_at<S: Source>(source: &S, chart: &[i16; 1024], step: u8) -> Option<Window>
+    requires number { step < 32 }
+    requires chart { IsChart (S.Source.sheet source.now).told chart.now }
     ensures { Tells (S.Source.sheet source.now).told nothing_placed step result }
 {
-    match source.step(step) {
-        Some(_) => Some(open_window(chart, step as usize)),
-        None => None,
-    }
+    source.step(step).map(|_| open_window(chart, step as usize))
 }
 
 // The windows of all steps with nothing placed: that of step n stands at place n - 1.
-pub(crate) fn open_windows<S: Source>(source: &S, chart: &[i16]) -> [Option<Window>; 31]
-    requires room { 1024 ≤ length chart.now }
-    requires chart { IsChart (S.Source.sheet source.now).told (take 1024 chart.now) }
+pub(crate) fn open_windows<S: Source>(source: &S, chart: &[i16; 1024]) -> [Option<Window>; 31]
+    requires { IsChart (S.Source.sheet source.now).told chart.now }
     ensures { Told (S.Source.sheet source.now).told nothing_placed result }
 {
     let mut windows = [None; 31];
-    for i in 0..31usize {
-        windows[i] = open_at(source, chart, i as u8 + 1);
+    for (i, window) in windows.iter_mut().enumerate() {
+        *window = open_at(source, chart, i as u8 + 1);
     }
     windows
 }

@@ -1,6 +1,6 @@
 // The plan of a source's sheet: a start hour and a vessel for each step.
-ghost use Rattle.std.specs.Prelude.{◌≡◌, ◌<◌, ◌≤◌, length, take, MatchBool};
-ghost use Rattle.plan.specs.Plans.{plan_number, CountsFit, CountOver, Wrote, of_chart, of_vessels, Room, Planned};
+ghost use Rattle.std.specs.Prelude.{◌≡◌, ◌≤◌, ◌↔◌, length, IsTrue, All};
+ghost use Rattle.plan.specs.Plans.{plan_number, CountsFit, Wrote, of_chart, of_vessels, Room, Planned};
 ghost use Rattle.sheet.specs.Waits.{IsChart};
 
 use super::fill::fill;
@@ -12,7 +12,7 @@ use vessels::Refusal;
 use waits::{ChartRefusal, wait_chart};
 
 // Why there is no plan.
-#[derive(Clone, Copy)]
+#[derive(Clone, Copy, Debug, PartialEq, Eq)]
 pub enum PlanRefusal {
     // A buffer is too short.
     TooShort,
@@ -37,42 +37,34 @@ impl PlanRefusal {
     }
 }
 
-// Whether a count of vessels is within its limit.
-fn is_count(count: u8) -> bool
-    ensures { MatchBool result (count ≤ 16) (16 < count) }
-{
-    count <= 16
-}
-
-// Whether all counts of a stock are.
+// Whether all counts of a stock are within their limit.
 fn counts_fit(stock: &[u8; 8]) -> bool
-    ensures { MatchBool result (CountsFit stock.now) (CountOver stock.now) }
+    ensures { IsTrue result ↔ All (λ count. count ≤ 16) stock.now }
 {
-    for kind in 0..8usize {
-        if !is_count(stock[kind]) {
-            return false;
-        }
-    }
-    true
+    stock.iter().all(|&count| count <= 16)
 }
 
 // What a plan makes of a refusal of the wait chart.
-fn of_chart(refusal: ChartRefusal) -> PlanRefusal
-    ensures { result ≡ of_chart refusal }
-{
-    match refusal {
-        ChartRefusal::TooShort => PlanRefusal::TooShort,
-        ChartRefusal::NoTimetable { count } => PlanRefusal::NoTimetable { count },
+impl From<ChartRefusal> for PlanRefusal {
+    ghost from_gives = { λ f r. r ≡ of_chart f };
+
+    fn from(refusal: ChartRefusal) -> PlanRefusal {
+        match refusal {
+            ChartRefusal::TooShort => PlanRefusal::TooShort,
+            ChartRefusal::NoTimetable { count } => PlanRefusal::NoTimetable { count },
+        }
     }
 }
 
 // What a plan makes of a refusal of the vessels.
-fn of_vessels(refusal: Refusal) -> PlanRefusal
-    ensures { result ≡ of_vessels refusal }
-{
-    match refusal {
-        Refusal::TooShort => PlanRefusal::TooShort,
-        Refusal::NoVessel(step) => PlanRefusal::NoVessel { step },
+impl From<Refusal> for PlanRefusal {
+    ghost from_gives = { λ f r. r ≡ of_vessels f };
+
+    fn from(refusal: Refusal) -> PlanRefusal {
+        match refusal {
+            Refusal::TooShort => PlanRefusal::TooShort,
+            Refusal::NoVessel(step) => PlanRefusal::NoVessel { step },
+        }
     }
 }
 
@@ -81,13 +73,15 @@ fn plan_by_chart<S: Source, C: Chooser>(
     source: &S,
     stock: &[u8; 8],
     chooser: &C,
-    chart: &[i16],
+    chart: &[i16; 1024],
     starts: &mut [u16],
     vessels: &mut [u8],
 ) -> Result<(), Refusal>
-    requires chart { (1024 ≤ length chart.now) × (IsChart (S.Source.sheet source.now).told (take 1024 chart.now)) }
-    requires room { (31 ≤ length starts.old) × (31 ≤ length vessels.old) }
-    ensures { Wrote (S.Source.sheet source.now).told (C.Chooser.rule chooser.now) stock.now starts.old starts.new vessels.old vessels.new result }
+    requires chart { IsChart (S.Source.sheet source.now).told chart.now }
+    requires starts { 31 ≤ length starts.old }
+    requires vessels { 31 ≤ length vessels.old }
+    ensures { Wrote (S.Source.sheet source.now).told (C.Chooser.rule chooser.now) stock.now
+        starts.old starts.new vessels.old vessels.new result }
 {
     let placed = fill(source, chart, chooser);
     write_plan(source, stock, &placed, starts, vessels)
@@ -103,18 +97,34 @@ fn plan_or_loop<S: Source, C: Chooser>(
     starts: &mut [u16],
     vessels: &mut [u8],
 ) -> Result<(), PlanRefusal>
-    requires room { Room (record { hours = hours.old; counted = counted.old; codes = codes.old; starts = starts.old; vessels = vessels.old }) }
+    requires room { Room (record {
+      hours = hours.old;
+      counted = counted.old;
+      codes = codes.old;
+      starts = starts.old;
+      vessels = vessels.old;
+    }) }
     requires counts { CountsFit stock.now }
-    ensures { Planned (S.Source.sheet source.now).told (C.Chooser.rule chooser.now) stock.now (record { hours = hours.old; counted = counted.old; codes = codes.old; starts = starts.old; vessels = vessels.old }) (record { hours = hours.new; counted = counted.new; codes = codes.new; starts = starts.new; vessels = vessels.new }) result }
+    ensures { Planned (S.Source.sheet source.now).told (C.Chooser.rule chooser.now) stock.now
+        (record {
+          hours = hours.old;
+          counted = counted.old;
+          codes = codes.old;
+          starts = starts.old;
+          vessels = vessels.old;
+        })
+        (record {
+          hours = hours.new;
+          counted = counted.new;
+          codes = codes.new;
+          starts = starts.new;
+          vessels = vessels.new;
+        }) result }
 {
     let mut chart = [0i16; 1024];
-    match wait_chart(source, hours, counted, &mut chart, codes) {
-        Ok(()) => match plan_by_chart(source, stock, chooser, &chart, starts, vessels) {
-            Ok(()) => Ok(()),
-            Err(refusal) => Err(of_vessels(refusal)),
-        },
-        Err(refusal) => Err(of_chart(refusal)),
-    }
+    wait_chart(source, hours, counted, &mut chart, codes)?;
+    plan_by_chart(source, stock, chooser, &chart, starts, vessels)?;
+    Ok(())
 }
 
 // Writes the plan of the source's sheet: 31 start hours, 65,535 for an absent step, and 31 vessel numbers, 0 for an
@@ -131,7 +141,21 @@ pub fn plan<S: Source, C: Chooser>(
     starts: &mut [u16],
     vessels: &mut [u8],
 ) -> Result<(), PlanRefusal>
-    ensures { Planned (S.Source.sheet source.now).told (C.Chooser.rule chooser.now) stock.now (record { hours = hours.old; counted = counted.old; codes = codes.old; starts = starts.old; vessels = vessels.old }) (record { hours = hours.new; counted = counted.new; codes = codes.new; starts = starts.new; vessels = vessels.new }) result }
+    ensures { Planned (S.Source.sheet source.now).told (C.Chooser.rule chooser.now) stock.now
+        (record {
+          hours = hours.old;
+          counted = counted.old;
+          codes = codes.old;
+          starts = starts.old;
+          vessels = vessels.old;
+        })
+        (record {
+          hours = hours.new;
+          counted = counted.new;
+          codes = codes.new;
+          starts = starts.new;
+          vessels = vessels.new;
+        }) result }
 {
     if hours.len() < 1024
         || counted.len() < 1024

@@ -9,7 +9,8 @@ pub place-requires : goal.place-requires
 place-requires g c =
     let sheet = g.S.Source.sheet c.args.source.now in
     let next = c.in-Some.ensures sheet.told sheet.sound c.loop-step.invariant.told in
-    record { room = c.requires.room; chart = c.requires.chart; stage = c.loop-step.invariant; next = next; number = step_numbers sheet.told sheet.sound c.in-Some.step next.waiting.there }
+    let number = step_numbers sheet.told sheet.sound c.in-Some.step next.waiting.there in
+    record { chart = c.requires; stage = c.loop-step.invariant; next = next; from_one = number.0; to_31 = number.1 }
 
 pub returns : goal.returns
 returns g c =

@@ -5,5 +5,5 @@ use Rattle.plan.proofs.opening.open_windows.Given as goal
 
 abbrev pub invariant-loop-i : goal.invariant-loop-i
 invariant-loop-i g l =
-    (length l.windows ≡ 31)
-    × ((k : ℕ) → k < l.i → Tells (g.S.Source.sheet l.source).told nothing_placed (k + 1) (get_or l.windows k None))
+    (length l.window-items ≡ 31)
+    × ((k : ℕ) → k < l.i → Tells (g.S.Source.sheet l.source).told nothing_placed (k + 1) (get_or l.window-items k None))

@@ -1,4 +1,3 @@
-use Rattle.std.proofs.Common.{take}
 use Rattle.windows.proofs.Steps.{filled_lawful}
 use Rattle.plan.proofs.planning.plan_by_chart.Goals as goal
 
@@ -7,4 +6,4 @@ returns g c =
     let s = g.S.Source.sheet c.args.source.now in
     let rule = g.C.Chooser.rule c.args.chooser.now in
     let filled = c.fill-placed.ensures in
-    c.write_plan.ensures rule filled (filled_lawful s.told s.sound (take 1024 c.args.chart.now) c.requires.chart.1 rule c.fill-placed.result filled)
+    c.write_plan.ensures rule filled (filled_lawful s.told s.sound c.args.chart.now c.requires.chart rule c.fill-placed.result filled)

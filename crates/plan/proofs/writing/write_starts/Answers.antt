@@ -1,6 +1,8 @@
-use Rattle.std.proofs.Common.{arith}
-use Rattle.plan.proofs.Settling.{starts_written}
+use Rattle.std.proofs.Common.{ℕ, ap, length, arith, length-take}
+use Rattle.std.proofs.lemmas.List.{length-map}
+use Rattle.vessels.specs.declared.placed.Placed.{Placed}
 use Rattle.plan.proofs.writing.write_starts.Goals as goal
 
-pub returns : goal.returns
-returns c = starts_written c.args.placed.now c.args.starts.now c.write_each.new.starts (omega arith) (omega (arith, c.write_each.auto.starts, c.requires)) c.write_each.ensures.each c.write_each.ensures.rest
+pub copy_from_slice-requires : goal.copy_from_slice-requires
+copy_from_slice-requires c =
+    omega (arith, length-take {A = ℕ}, length-map c.args.placed.now (λ (step : Placed). step.start), ap length c.hours_of.ensures)
