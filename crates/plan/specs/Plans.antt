@@ -12,8 +12,8 @@ use Rattle.vessels.specs.Vessels.{Outcome, all, missing, GivesOut}
 use Rattle.vessels.specs.declared.placed.Placed.{Placed}
 use Rattle.vessels.specs.declared.refusals.Refusal.{Refusal}
 use Rattle.vessels.specs.declared.refusals.Refusal.TheVariants.{TooShort as Short, NoVessel as Lacks}
-use Rattle.waits.specs.declared.ChartRefusal.{ChartRefusal}
-use Rattle.waits.specs.declared.ChartRefusal.TheVariants.{TooShort as NoRoom, NoTimetable as NothingLawful}
+use Rattle.loops.specs.declared.refusals.LoopRefusal.{LoopRefusal}
+use Rattle.loops.specs.declared.refusals.LoopRefusal.TheVariants.{TooShort as NoRoom, NoTimetable as NothingLawful}
 use Rattle.brews.specs.Brews.{HeldOnce}
 use Rattle.windows.specs.Placing.{Filled, starts as starts_of}
 
@@ -70,7 +70,7 @@ Wrote s rule stock starts starts_after vessels vessels_after (Err Short) = ⊥
 Wrote s rule stock starts starts_after vessels vessels_after (Err (Lacks step)) = Lacking s rule stock step starts starts_after vessels vessels_after
 
 -- What a plan makes of a refusal of the wait chart or of the vessels.
-abbrev pub of_chart : ChartRefusal → PlanRefusal
+abbrev pub of_chart : LoopRefusal → PlanRefusal
 of_chart NoRoom = TooShort
 of_chart (NothingLawful count) = NoTimetable count
 

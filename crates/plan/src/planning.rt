@@ -9,7 +9,7 @@ use choose::Chooser;
 use kinds::{Counted, Hours};
 use sheet::Source;
 use vessels::Refusal;
-use waits::{ChartRefusal, wait_chart};
+use waits::{LoopRefusal, wait_chart};
 
 // Why there is no plan.
 #[derive(Clone, Copy, Debug, PartialEq, Eq)]
@@ -45,13 +45,13 @@ fn counts_fit(stock: &[u8; 8]) -> bool
 }
 
 // What a plan makes of a refusal of the wait chart.
-impl From<ChartRefusal> for PlanRefusal {
+impl From<LoopRefusal> for PlanRefusal {
     ghost from_gives = { λ f r. r ≡ of_chart f };
 
-    fn from(refusal: ChartRefusal) -> PlanRefusal {
+    fn from(refusal: LoopRefusal) -> PlanRefusal {
         match refusal {
-            ChartRefusal::TooShort => PlanRefusal::TooShort,
-            ChartRefusal::NoTimetable { count } => PlanRefusal::NoTimetable { count },
+            LoopRefusal::TooShort => PlanRefusal::TooShort,
+            LoopRefusal::NoTimetable { count } => PlanRefusal::NoTimetable { count },
         }
     }
 }
