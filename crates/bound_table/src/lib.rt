@@ -19,9 +19,7 @@ mod tests {
     fn sheet_of(span: u16, durations: &[u16], rules: &[Rule]) -> Sheet {
         let mut sheet = Sheet::empty();
         sheet.span = span;
-        let mut number = 0u8;
-        for duration in durations {
-            number = number.saturating_add(1);
+        for (number, duration) in (1..=31u8).zip(durations) {
             sheet.set_step(
                 number,
                 Some(Step {
@@ -31,9 +29,7 @@ mod tests {
                 }),
             );
         }
-        number = 0;
-        for rule in rules {
-            number = number.saturating_add(1);
+        for (number, rule) in (1..=96u8).zip(rules) {
             sheet.set_rule(number, *rule);
         }
         sheet

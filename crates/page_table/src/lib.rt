@@ -55,8 +55,8 @@ mod tests {
     // A full book of commands that are all refused: rule 0 is removed 2,048 times.
     fn removals() -> [u8; 4096] {
         let mut book = [0; 4096];
-        for k in 0..2048usize {
-            book[2 * k] = 0x07;
+        for command in book.chunks_exact_mut(2) {
+            command[0] = 0x07;
         }
         book
     }

@@ -37,10 +37,7 @@ fn told<S: Source>(source: &S) -> (u16, i16, i16) {
     let mut counted = [Counted { hours: 0, links: 0 }; 1024];
     let mut chart = [0i16; 1024];
     let mut codes = [0u16; 32];
-    let bound = match period_bound(source, &mut hours, &mut counted, &mut codes) {
-        Ok(bound) => bound,
-        Err(_) => 0,
-    };
+    let bound = period_bound(source, &mut hours, &mut counted, &mut codes).unwrap_or(0);
     match wait_chart(source, &mut hours, &mut counted, &mut chart, &mut codes) {
         Ok(()) => (bound, chart[3], chart[98]),
         Err(refusal) => (bound, 0, refusal.number() as i16),
