@@ -2,11 +2,14 @@
 #![tactic(auto)]
 
 ghost use Rattle.std.specs.Prelude.{◌≡◌, ◌≤◌, true, false, length};
+ghost use Rattle.chart.specs.Runs.{WorkedOut};
+ghost use Rattle.kinds.specs.Alone.{no_hours, hours_sum, HoursUnder, AloneWithin, link_hours};
 ghost use Rattle.loops.specs.Loops.{RestKept};
+ghost use Rattle.sheet.specs.Layers.{other_period};
 ghost use Rattle.sheet.specs.Waits.{IsBound};
 ghost use Rattle.bound.specs.Bounds.{Works, Blocked, Least, Bounded};
 
-use chart::work_out;
+use chart::{Places, Stop, work_out};
 use kinds::{Counted, Hours};
 pub use loops::LoopRefusal;
 use loops::find_loop;
@@ -14,6 +17,19 @@ use sheet::{OtherPeriod, Source};
 
 // The longest period that a sheet may have.
 const LONGEST: u16 = 999;
+
+// The working chart at another period.
+fn work_at<S: Source>(source: &S, period: u16, hours: &mut [Hours]) -> Result<Places, Stop>
+    ensures { let other = other_period (S.Source.sheet source.now) period in
+        WorkedOut no_hours hours_sum link_hours HoursUnder AloneWithin other.told hours.old hours.new
+        result }
+{
+    let other = OtherPeriod {
+        below: source,
+        period,
+    };
+    work_out(&other, hours)
+}
 
 // Whether there is a lawful timetable at a period.
 fn works_at<S: Source>(source: &S, period: u16, hours: &mut [Hours]) -> bool
@@ -24,11 +40,7 @@ fn works_at<S: Source>(source: &S, period: u16, hours: &mut [Hours]) -> bool
     ensures yes { result ≡ true → Works (S.Source.sheet source.now).told period }
     ensures no { result ≡ false → Blocked (S.Source.sheet source.now).told period }
 {
-    let other = OtherPeriod {
-        below: source,
-        period,
-    };
-    work_out(&other, hours).is_ok()
+    work_at(source, period, hours).is_ok()
 }
 
 // The least period with a lawful timetable, where there is one at the longest.

@@ -99,7 +99,8 @@ pub(crate) fn turns_up<E: Entry>(cells: &[E], position: usize) -> bool
     requires room { 1024 ≤ length cells.now }
     requires position { position < 32 }
     ensures low { result ≡ false → E.under (at E.neutral cells.now position position) E.neutral }
-    ensures high { result ≡ true → E.under (at E.neutral cells.now position position) E.neutral → ⊥ }
+    ensures high { result ≡ true
+        → E.under (at E.neutral cells.now position position) E.neutral → ⊥ }
 {
     get(cells, position, position).beats(E::zero())
 }

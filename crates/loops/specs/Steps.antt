@@ -24,17 +24,21 @@ WholeWay period p k a xs l = (l.to ≡ place p k) × (one_link period l ≡ at n
 
 -- The link leads to a processed position, and with the entry from there makes up the entry from position a.
 abbrev pub PartWay : ℕ → Places → ℕ → ℕ → List Counted → Link → Type 0
-PartWay period p k a xs l = (position p l.to < k) × (counted_sum (one_link period l) (at no_link xs (position p l.to) k) ≡ at no_link xs a k)
+PartWay period p k a xs l =
+    (position p l.to < k) × (counted_sum (one_link period l) (at no_link xs (position p l.to) k) ≡ at no_link xs a k)
 
 -- The link begins at position a and accounts for the entry from there to position k.
 abbrev pub Accounts : ℕ → Places → ℕ → ℕ → List Counted → Link → Type 0
-Accounts period p k a xs l = (l.from ≡ place p a) × (WholeWay period p k a xs l ⊎ PartWay period p k a xs l)
+Accounts period p k a xs l =
+    (l.from ≡ place p a) × (WholeWay period p k a xs l ⊎ PartWay period p k a xs l)
 
 -- A link of the sheet that accounts for an entry, or that there is none with a code, or with a code below a number.
 abbrev pub FoundAt : RuleSheet → Places → ℕ → ℕ → List Counted → ℕ → Option Link → Type 0
-FoundAt s p k a xs code None = (l : Link) → IsLink s l → l.code ≡ code → Accounts s.period p k a xs l → ⊥
+FoundAt s p k a xs code None =
+    (l : Link) → IsLink s l → l.code ≡ code → Accounts s.period p k a xs l → ⊥
 FoundAt s p k a xs code (Some l) = IsLink s l × Accounts s.period p k a xs l
 
 abbrev pub FoundBelow : RuleSheet → Places → ℕ → ℕ → List Counted → ℕ → Option Link → Type 0
-FoundBelow s p k a xs code None = (l : Link) → IsLink s l → l.code < code → Accounts s.period p k a xs l → ⊥
+FoundBelow s p k a xs code None =
+    (l : Link) → IsLink s l → l.code < code → Accounts s.period p k a xs l → ⊥
 FoundBelow s p k a xs code (Some l) = IsLink s l × Accounts s.period p k a xs l

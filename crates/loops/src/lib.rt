@@ -25,7 +25,8 @@ fn write_from_front<S: Source>(
 ) -> usize
     requires cells { 1024 ≤ length cells.now }
     requires codes { 32 ≤ length codes.old }
-    requires stopped { Stopped (S.Source.sheet source.now).told places.now stop (take 1024 cells.now) }
+    requires stopped { let sheet = (S.Source.sheet source.now).told in
+        Stopped sheet places.now stop (take 1024 cells.now) }
     ensures { LoopWritten (S.Source.sheet source.now).told codes.old codes.new result }
 {
     let Some(cells) = cells.first_chunk::<1024>() else {

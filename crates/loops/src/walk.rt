@@ -43,8 +43,9 @@ impl<'a, S: Source> Walk<'a, S> {
     fn is_whole_way(&self, here: usize, link: &Link) -> bool
         requires { here < self.now.places.now.count }
         ensures { let sheet = (S.Source.sheet self.now.source.now).told in
+            let places = self.now.places.now in
             IsTrue result
-            ↔ WholeWay sheet.period self.now.places.now self.now.stop here self.now.cells.now link.now }
+            ↔ WholeWay sheet.period places self.now.stop here self.now.cells.now link.now }
     {
         link.to == self.places.list[self.stop]
             && Counted::of_link(link, self.source.period()) == self.entry(here)
@@ -54,8 +55,9 @@ impl<'a, S: Source> Walk<'a, S> {
         requires here { here < self.now.places.now.count }
         requires link { IsLink (S.Source.sheet self.now.source.now).told link.now }
         ensures { let sheet = (S.Source.sheet self.now.source.now).told in
+            let places = self.now.places.now in
             IsTrue result
-            ↔ PartWay sheet.period self.now.places.now self.now.stop here self.now.cells.now link.now }
+            ↔ PartWay sheet.period places self.now.stop here self.now.cells.now link.now }
     {
         let next = self.places.positions[link.to as usize] as usize;
         if next >= self.stop {
@@ -70,8 +72,9 @@ impl<'a, S: Source> Walk<'a, S> {
         requires here { here < self.now.places.now.count }
         requires link { IsLink (S.Source.sheet self.now.source.now).told link.now }
         ensures { let sheet = (S.Source.sheet self.now.source.now).told in
+            let places = self.now.places.now in
             IsTrue result
-            ↔ Accounts sheet.period self.now.places.now self.now.stop here self.now.cells.now link.now }
+            ↔ Accounts sheet.period places self.now.stop here self.now.cells.now link.now }
     {
         link.from == self.places.list[here]
             && (self.is_whole_way(here, link) || self.is_part_way(here, link))

@@ -61,13 +61,15 @@ Charted s before after (Err TooShort) = (Room before → ⊥) × (after ≡ befo
 Charted s before after (Err (NoTimetable count)) = Refused s count before after
 
 -- A chart was given, from a working chart of hours alone.
-pub record GivenPlainly (s : RuleSheet) (hours hours_after : List Hours) (chart chart_after : List ℤ) : Type 0 where
+pub record GivenPlainly (s : RuleSheet) (hours hours_after : List Hours) (chart chart_after : List ℤ)
+    : Type 0 where
   pub room : (1024 ≤ length hours) × (1024 ≤ length chart)
   pub working : RestKept hours hours_after
   pub written : ChartWritten s chart chart_after
 
 -- The sheet has no lawful timetable: the chart is as it was, and no codes are told.
-pub record RefusedPlainly (s : RuleSheet) (count : ℕ) (hours hours_after : List Hours) (chart chart_after : List ℤ) : Type 0 where
+pub record RefusedPlainly (s : RuleSheet) (count : ℕ) (hours hours_after : List Hours)
+    (chart chart_after : List ℤ) : Type 0 where
   pub room : (1024 ≤ length hours) × (1024 ≤ length chart)
   pub none : (t : Timetable) → Lawful s t → ⊥
   pub no_codes : count ≡ 0
@@ -75,8 +77,11 @@ pub record RefusedPlainly (s : RuleSheet) (count : ℕ) (hours hours_after : Lis
   pub kept : chart_after ≡ chart
 
 -- The answer to a call for the wait chart that looks for no loop.
-abbrev pub PlainlyCharted : RuleSheet → List Hours → List Hours → List ℤ → List ℤ → Result (Unit {0}) LoopRefusal → Type 0
-PlainlyCharted s hours hours_after chart chart_after (Ok done) = GivenPlainly s hours hours_after chart chart_after
+abbrev pub PlainlyCharted : RuleSheet → List Hours → List Hours → List ℤ → List ℤ
+    → Result (Unit {0}) LoopRefusal → Type 0
+PlainlyCharted s hours hours_after chart chart_after (Ok done) =
+    GivenPlainly s hours hours_after chart chart_after
 PlainlyCharted s hours hours_after chart chart_after (Err TooShort) =
     ((1024 ≤ length hours) × (1024 ≤ length chart) → ⊥) × (hours_after ≡ hours) × (chart_after ≡ chart)
-PlainlyCharted s hours hours_after chart chart_after (Err (NoTimetable count)) = RefusedPlainly s count hours hours_after chart chart_after
+PlainlyCharted s hours hours_after chart chart_after (Err (NoTimetable count)) =
+    RefusedPlainly s count hours hours_after chart chart_after

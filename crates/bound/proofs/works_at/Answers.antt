@@ -12,9 +12,9 @@ returns g c =
     let same = as_it_is hours c.requires.low c.requires.high in
     let told = sym c.is_ok.ensures.value in
     record {
-      kept = worked_kept other c.args.hours.now c.work_out.new.cells c.requires.room c.work_out.result c.work_out.ensures;
-      yes = λ ok. subst (Works sheet.told) same (worked_works other c.args.hours.now c.work_out.new.cells c.requires.room c.work_out.result c.work_out.ensures (told ∙ ok));
+      kept = worked_kept other c.args.hours.now c.work_at.new.hours c.requires.room c.work_at.result c.work_at.ensures;
+      yes = λ ok. subst (Works sheet.told) same (worked_works other c.args.hours.now c.work_at.new.hours c.requires.room c.work_at.result c.work_at.ensures (told ∙ ok));
       no = λ fails.
           blocked_back sheet.told hours
-          (subst (λ p. Blocked (at_period sheet.told p) p) same (worked_blocked other c.args.hours.now c.work_out.new.cells c.requires.room c.work_out.result c.work_out.ensures (told ∙ fails)));
+          (subst (λ p. Blocked (at_period sheet.told p) p) same (worked_blocked other c.args.hours.now c.work_at.new.hours c.requires.room c.work_at.result c.work_at.ensures (told ∙ fails)));
     }
