@@ -55,9 +55,11 @@ impl<'a, S: Source> Filler<'a, S> {
         requires from { a < self.now.places.now.count }
         requires to { b < self.now.places.now.count }
         requires started { let sheet = (S.Source.sheet self.now.source.now).told in
-            StartedTo E.neutral E.sum E.value E.under E.within sheet self.now.places.now a b cells.now }
+            let places = self.now.places.now in
+            StartedTo E.neutral E.sum E.value E.under E.within sheet places a b cells.now }
         ensures { let sheet = (S.Source.sheet self.now.source.now).told in
-            Edge E.neutral E.sum E.value E.under E.within sheet self.now.places.now a b result }
+            let places = self.now.places.now in
+            Edge E.neutral E.sum E.value E.under E.within sheet places a b result }
     {
         if a == b {
             E::zero()
@@ -76,9 +78,11 @@ impl<'a, S: Source> Filler<'a, S> {
         requires room { 1024 ≤ length cells.old }
         requires row { row < self.now.places.now.count }
         requires started { let sheet = (S.Source.sheet self.now.source.now).told in
-            StartedTo E.neutral E.sum E.value E.under E.within sheet self.now.places.now row 0 cells.old }
+            let places = self.now.places.now in
+            StartedTo E.neutral E.sum E.value E.under E.within sheet places row 0 cells.old }
         ensures { let sheet = (S.Source.sheet self.now.source.now).told in
-            StartedTo E.neutral E.sum E.value E.under E.within sheet self.now.places.now (row + 1) 0 cells.new }
+            let places = self.now.places.now in
+            StartedTo E.neutral E.sum E.value E.under E.within sheet places (row + 1) 0 cells.new }
     {
         for b in 0..self.places.count {
             let entry = self.first_entry(cells, row, b);
@@ -90,7 +94,8 @@ impl<'a, S: Source> Filler<'a, S> {
     fn start<E: Entry>(&self, cells: &mut [E])
         requires room { 1024 ≤ length cells.old }
         ensures { let sheet = (S.Source.sheet self.now.source.now).told in
-            FilledTo E.neutral E.sum E.value E.under E.within sheet self.now.places.now 0 cells.new }
+            let places = self.now.places.now in
+            FilledTo E.neutral E.sum E.value E.under E.within sheet places 0 cells.new }
     {
         for row in 0..self.places.count {
             self.first_row(cells, row);
@@ -101,9 +106,11 @@ impl<'a, S: Source> Filler<'a, S> {
     fn raise_link<E: Entry>(&self, cells: &mut [E], code: u16)
         requires room { 1024 ≤ length cells.old }
         requires filled { let sheet = (S.Source.sheet self.now.source.now).told in
-            FilledTo E.neutral E.sum E.value E.under E.within sheet self.now.places.now code cells.old }
+            let places = self.now.places.now in
+            FilledTo E.neutral E.sum E.value E.under E.within sheet places code cells.old }
         ensures { let sheet = (S.Source.sheet self.now.source.now).told in
-            FilledTo E.neutral E.sum E.value E.under E.within sheet self.now.places.now (code + 1) cells.new }
+            let places = self.now.places.now in
+            FilledTo E.neutral E.sum E.value E.under E.within sheet places (code + 1) cells.new }
     {
         if let Some(link) = link_with_code(self.source, code) {
             let by = E::of_link(&link, self.source.period());
@@ -115,7 +122,8 @@ impl<'a, S: Source> Filler<'a, S> {
     pub(crate) fn fill<E: Entry>(&self, cells: &mut [E])
         requires room { 1024 ≤ length cells.old }
         ensures { let sheet = (S.Source.sheet self.now.source.now).told in
-            FilledTo E.neutral E.sum E.value E.under E.within sheet self.now.places.now 432 cells.new }
+            let places = self.now.places.now in
+            FilledTo E.neutral E.sum E.value E.under E.within sheet places 432 cells.new }
     {
         self.start(cells);
         for code in 0..CODES {
