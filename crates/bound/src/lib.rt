@@ -21,8 +21,8 @@ const LONGEST: u16 = 999;
 // The working chart at another period.
 fn work_at<S: Source>(source: &S, period: u16, hours: &mut [Hours]) -> Result<Places, Stop>
     ensures { let other = other_period (S.Source.sheet source.now) period in
-        WorkedOut no_hours hours_sum link_hours HoursUnder AloneWithin other.told hours.old hours.new
-        result }
+        WorkedOut no_hours hours_sum link_hours HoursUnder AloneWithin other.told hours.old
+        hours.new result }
 {
     let other = OtherPeriod {
         below: source,

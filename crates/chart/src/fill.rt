@@ -23,64 +23,6 @@ fn entry_with_code<S: Source, E: Entry>(source: &S, code: u16) -> E
     }
 }
 
-// The first entry from position `a` to position `b`: by a floor from place 0, by a ceiling to it, and by both between
-// other places, for which the entries from and to place 0 are read.
-fn first_entry<S: Source, E: Entry>(
-    source: &S,
-    places: &Places,
-    cells: &[E],
-    a: usize,
-    b: usize,
-) -> E
-    requires room { 1024 ≤ length cells.now }
-    requires places { IsPlaces (S.Source.sheet source.now).told places.now }
-    requires from { a < places.now.count }
-    requires to { b < places.now.count }
-    requires started { let sheet = (S.Source.sheet source.now).told in
-        StartedTo E.neutral E.sum E.value E.under E.within sheet places.now a b cells.now }
-    ensures { let sheet = (S.Source.sheet source.now).told in
-        Edge E.neutral E.sum E.value E.under E.within sheet places.now a b result }
-{
-    if a == b {
-        E::zero()
-    } else if a == 0 {
-        entry_with_code(source, 200 + places.list[b] as u16)
-    } else if b == 0 {
-        entry_with_code(source, 300 + places.list[a] as u16)
-    } else {
-        let to = get(cells, a, 0);
-        let on = get(cells, 0, b);
-        to.plus(on)
-    }
-}
-
-fn first_row<S: Source, E: Entry>(source: &S, places: &Places, cells: &mut [E], row: usize)
-    requires room { 1024 ≤ length cells.old }
-    requires places { IsPlaces (S.Source.sheet source.now).told places.now }
-    requires row { row < places.now.count }
-    requires started { let sheet = (S.Source.sheet source.now).told in
-        StartedTo E.neutral E.sum E.value E.under E.within sheet places.now row 0 cells.old }
-    ensures { let sheet = (S.Source.sheet source.now).told in
-        StartedTo E.neutral E.sum E.value E.under E.within sheet places.now (row + 1) 0 cells.new }
-{
-    for b in 0..places.count {
-        let entry = first_entry(source, places, cells, row, b);
-        put(cells, row, b, entry);
-    }
-}
-
-// Writes an entry for every pair of positions.
-fn start<S: Source, E: Entry>(source: &S, places: &Places, cells: &mut [E])
-    requires room { 1024 ≤ length cells.old }
-    requires places { IsPlaces (S.Source.sheet source.now).told places.now }
-    ensures { let sheet = (S.Source.sheet source.now).told in
-        FilledTo E.neutral E.sum E.value E.under E.within sheet places.now 0 cells.new }
-{
-    for row in 0..places.count {
-        first_row(source, places, cells, row);
-    }
-}
-
 // Raises the entry between a link's ends.
 fn raise_between<E: Entry>(places: &Places, cells: &mut [E], link: &Link, by: E)
     requires room { 1024 ≤ length cells.old }
@@ -97,30 +39,95 @@ fn raise_between<E: Entry>(places: &Places, cells: &mut [E], link: &Link, by: E)
     raise(cells, from, to, by);
 }
 
-// Raises the entry of the link with a code, if there is one.
-fn raise_link<S: Source, E: Entry>(source: &S, places: &Places, cells: &mut [E], code: u16)
-    requires room { 1024 ≤ length cells.old }
-    requires places { IsPlaces (S.Source.sheet source.now).told places.now }
-    requires filled { let sheet = (S.Source.sheet source.now).told in
-        FilledTo E.neutral E.sum E.value E.under E.within sheet places.now code cells.old }
-    ensures { let sheet = (S.Source.sheet source.now).told in
-        FilledTo E.neutral E.sum E.value E.under E.within sheet places.now (code + 1) cells.new }
-{
-    if let Some(link) = link_with_code(source, code) {
-        let by = E::of_link(&link, source.period());
-        raise_between(places, cells, &link, by);
-    }
+// What a chart is filled from: a source, and the present places of its sheet.
+#[derive(Drop)]
+pub(crate) struct Filler<'a, S: Source> {
+    pub source: &'a S,
+    pub places: &'a Places,
+    ghost known: { IsPlaces (S.Source.sheet source.now).told places.now },
 }
 
-// Fills the chart: every pair of positions has an entry, and every link is under its own.
-pub(crate) fn fill<S: Source, E: Entry>(source: &S, places: &Places, cells: &mut [E])
-    requires room { 1024 ≤ length cells.old }
-    requires places { IsPlaces (S.Source.sheet source.now).told places.now }
-    ensures { let sheet = (S.Source.sheet source.now).told in
-        FilledTo E.neutral E.sum E.value E.under E.within sheet places.now 432 cells.new }
-{
-    start(source, places, cells);
-    for code in 0..CODES {
-        raise_link(source, places, cells, code);
+impl<'a, S: Source> Filler<'a, S> {
+    // The first entry from position `a` to position `b`: by a floor from place 0, by a ceiling to it, and by both between
+    // other places, for which the entries from and to place 0 are read.
+    fn first_entry<E: Entry>(&self, cells: &[E], a: usize, b: usize) -> E
+        requires room { 1024 ≤ length cells.now }
+        requires from { a < self.now.places.now.count }
+        requires to { b < self.now.places.now.count }
+        requires started { let sheet = (S.Source.sheet self.now.source.now).told in
+            let places = self.now.places.now in
+            StartedTo E.neutral E.sum E.value E.under E.within sheet places a b cells.now }
+        ensures { let sheet = (S.Source.sheet self.now.source.now).told in
+            let places = self.now.places.now in
+            Edge E.neutral E.sum E.value E.under E.within sheet places a b result }
+    {
+        if a == b {
+            E::zero()
+        } else if a == 0 {
+            entry_with_code(self.source, 200 + self.places.list[b] as u16)
+        } else if b == 0 {
+            entry_with_code(self.source, 300 + self.places.list[a] as u16)
+        } else {
+            let to = get(cells, a, 0);
+            let on = get(cells, 0, b);
+            to.plus(on)
+        }
+    }
+
+    fn first_row<E: Entry>(&self, cells: &mut [E], row: usize)
+        requires room { 1024 ≤ length cells.old }
+        requires row { row < self.now.places.now.count }
+        requires started { let sheet = (S.Source.sheet self.now.source.now).told in
+            let places = self.now.places.now in
+            StartedTo E.neutral E.sum E.value E.under E.within sheet places row 0 cells.old }
+        ensures { let sheet = (S.Source.sheet self.now.source.now).told in
+            let places = self.now.places.now in
+            StartedTo E.neutral E.sum E.value E.under E.within sheet places (row + 1) 0 cells.new }
+    {
+        for b in 0..self.places.count {
+            let entry = self.first_entry(cells, row, b);
+            put(cells, row, b, entry);
+        }
+    }
+
+    // Writes an entry for every pair of positions.
+    fn start<E: Entry>(&self, cells: &mut [E])
+        requires room { 1024 ≤ length cells.old }
+        ensures { let sheet = (S.Source.sheet self.now.source.now).told in
+            let places = self.now.places.now in
+            FilledTo E.neutral E.sum E.value E.under E.within sheet places 0 cells.new }
+    {
+        for row in 0..self.places.count {
+            self.first_row(cells, row);
+        }
+    }
+
+    // Raises the entry of the link with a code, if there is one.
+    fn raise_link<E: Entry>(&self, cells: &mut [E], code: u16)
+        requires room { 1024 ≤ length cells.old }
+        requires filled { let sheet = (S.Source.sheet self.now.source.now).told in
+            let places = self.now.places.now in
+            FilledTo E.neutral E.sum E.value E.under E.within sheet places code cells.old }
+        ensures { let sheet = (S.Source.sheet self.now.source.now).told in
+            let places = self.now.places.now in
+            FilledTo E.neutral E.sum E.value E.under E.within sheet places (code + 1) cells.new }
+    {
+        if let Some(link) = link_with_code(self.source, code) {
+            let by = E::of_link(&link, self.source.period());
+            raise_between(self.places, cells, &link, by);
+        }
+    }
+
+    // Fills the chart: every pair of positions has an entry, and every link is under its own.
+    pub(crate) fn fill<E: Entry>(&self, cells: &mut [E])
+        requires room { 1024 ≤ length cells.old }
+        ensures { let sheet = (S.Source.sheet self.now.source.now).told in
+            let places = self.now.places.now in
+            FilledTo E.neutral E.sum E.value E.under E.within sheet places 432 cells.new }
+    {
+        self.start(cells);
+        for code in 0..CODES {
+            self.raise_link(cells, code);
+        }
     }
 }

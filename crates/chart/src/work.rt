@@ -4,7 +4,7 @@ ghost use Rattle.chart.specs.Runs.{Answered, WorkedOut};
 
 use super::cells::close;
 use super::entry::Entry;
-use super::fill::fill;
+use super::fill::Filler;
 use super::places::{Places, Stop};
 use sheet::Source;
 
@@ -14,7 +14,11 @@ fn fill_and_close<S: Source, E: Entry>(source: &S, cells: &mut [E]) -> Result<Pl
         Answered E.neutral E.sum E.value E.under E.within sheet cells.new result }
 {
     let places = Places::of(source);
-    fill(source, &places, cells);
+    let filler = Filler {
+        source,
+        places: &places,
+    };
+    filler.fill(cells);
     match close(cells, places.count) {
         None => Ok(places),
         Some(position) => Err(Stop::Beaten { places, position }),

@@ -47,8 +47,8 @@ fn take_item(
 ) -> usize
     requires room { 1024 ≤ length hours.old }
     requires place { count < length reports.old }
-    ensures { ItemTaken book (sheet_of planner.old) (item_of item.entry) hours.old hours.new reports.old
-        reports.new count (sheet_of planner.new) result }
+    ensures { ItemTaken book (sheet_of planner.old) (item_of item.entry) hours.old hours.new
+        reports.old reports.new count (sheet_of planner.new) result }
 {
     let offset = offset_of(&item);
     match enter_item(planner, item, hours) {
@@ -76,8 +76,9 @@ fn take_items(
     requires front { place_of reader.old ≡ 0 }
     requires reports { half (length (book_of reader.old)) ≤ length reports.old }
     ensures few { result ≤ half (length (book_of reader.old)) }
-    ensures taken { ItemsTaken book (book_of reader.old) (place_of reader.old) (sheet_of planner.old) hours.old
-        hours.new reports.old reports.new (sheet_of planner.new) result }
+    ensures taken { ItemsTaken book (book_of reader.old) (place_of reader.old)
+        (sheet_of planner.old) hours.old hours.new reports.old reports.new (sheet_of planner.new)
+        result }
 {
     let mut count = 0;
     while let Some(item) = reader.read_next() {
@@ -98,8 +99,8 @@ fn take_book(
     requires room { 1024 ≤ length hours.old }
     requires reports { half (length bytes.now) ≤ length reports.old }
     ensures few { result ≤ half (length bytes.now) }
-    ensures taken { BookTaken book bytes.now (sheet_of planner.old) hours.old hours.new reports.old reports.new
-        (sheet_of planner.new) result }
+    ensures taken { BookTaken book bytes.now (sheet_of planner.old) hours.old hours.new
+        reports.old reports.new (sheet_of planner.new) result }
 {
     match Reader::new(bytes) {
         Ok(mut reader) => take_items(planner, book, &mut reader, hours, reports),
@@ -120,8 +121,9 @@ fn take_either(
     requires room { 1024 ≤ length hours.old }
     requires reports { half (length (bytes_of book office.now tablet.now)) ≤ length reports.old }
     ensures few { result ≤ half (length (bytes_of book office.now tablet.now)) }
-    ensures taken { BookTaken book (bytes_of book office.now tablet.now) (sheet_of planner.old) hours.old
-        hours.new reports.old reports.new (sheet_of planner.new) result }
+    ensures taken { BookTaken book (bytes_of book office.now tablet.now)
+        (sheet_of planner.old) hours.old hours.new reports.old reports.new (sheet_of planner.new)
+        result }
 {
     match book {
         Book::Office => take_book(planner, book, office, hours, reports),
@@ -138,7 +140,8 @@ fn take_both(
     reports: &mut [Report],
 ) -> usize
     requires readable { Readable office.now tablet.now }
-    requires room { Room office.now tablet.now (record { hours = hours.old; reports = reports.old }) }
+    requires room { Room office.now tablet.now
+        (record { hours = hours.old; reports = reports.old }) }
     ensures { Done (sheet_of planner.old) office.now tablet.now
         (record { hours = hours.old; reports = reports.old }) result (sheet_of planner.new)
         (record { hours = hours.new; reports = reports.new }) }

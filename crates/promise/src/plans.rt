@@ -21,7 +21,8 @@ pub(crate) fn plan_of<S: Source, C: Chooser>(
     counted: &mut [Counted],
     codes: &mut [u16],
 ) -> Result<Plan, PlanRefusal>
-    ensures { PlanTold (S.Source.sheet source.now).told (C.Chooser.rule chooser.now) stock.now hours.old counted.old codes.old result }
+    ensures { PlanTold (S.Source.sheet source.now).told (C.Chooser.rule chooser.now) stock.now
+        hours.old counted.old codes.old result }
 {
     let mut starts = [0; 31];
     let mut vessels = [0; 31];

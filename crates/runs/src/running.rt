@@ -35,7 +35,8 @@ fn take_command(
     call: usize,
     notes: &mut Vec<Note>,
 ) -> Result<(), AllocError>
-    ensures { OnOk result (CallTaken (sheet_of planner.old) (enters (said command.now)) call notes.old.items notes.new.items (sheet_of planner.new)) }
+    ensures { OnOk result (CallTaken (sheet_of planner.old) (enters (said command.now)) call
+        notes.old.items notes.new.items (sheet_of planner.new)) }
 {
     let mut hours = [Hours { hours: 0 }; 1024];
     let mut counted = [Counted { hours: 0, links: 0 }; 1024];
@@ -56,7 +57,8 @@ fn take_merge(
     call: usize,
     notes: &mut Vec<Note>,
 ) -> Result<(), AllocError>
-    ensures { OnOk result (CallTaken (sheet_of planner.old) (merges office.now tablet.now) call notes.old.items notes.new.items (sheet_of planner.new)) }
+    ensures { OnOk result (CallTaken (sheet_of planner.old) (merges office.now tablet.now) call
+        notes.old.items notes.new.items (sheet_of planner.new)) }
 {
     let mut hours = [Hours { hours: 0 }; 1024];
     let mut reports = [Report::BLANK; 4096];
@@ -76,7 +78,8 @@ fn take_call(
     call: usize,
     notes: &mut Vec<Note>,
 ) -> Result<(), AllocError>
-    ensures { OnOk result (CallTaken (sheet_of planner.old) (asked_by asked.now) call notes.old.items notes.new.items (sheet_of planner.new)) }
+    ensures { OnOk result (CallTaken (sheet_of planner.old) (asked_by asked.now) call
+        notes.old.items notes.new.items (sheet_of planner.new)) }
 {
     match *asked {
         Call::Enter { command } => take_command(planner, &command, call, notes),
@@ -90,7 +93,8 @@ fn take_calls(
     calls: &[Call],
     notes: &mut Vec<Note>,
 ) -> Result<(), AllocError>
-    ensures { OnOk result (Running (sheet_of planner.old) calls.now notes.old.items (length calls.now) (sheet_of planner.new) notes.new.items) }
+    ensures { OnOk result (Running (sheet_of planner.old) calls.now notes.old.items
+        (length calls.now) (sheet_of planner.new) notes.new.items) }
 {
     for (call, asked) in calls.iter().enumerate() {
         take_call(planner, asked, call, notes)?;
@@ -107,7 +111,8 @@ pub struct Ran {
 
 // Carries out the calls on an empty planner.
 pub fn run(heap: Global, calls: &[Call]) -> Result<Ran, AllocError>
-    ensures { IfOk result (λ ran. RunTaken (map asked_by calls.now) (sheet_of ran.planner) ran.notes.items) }
+    ensures { IfOk result (λ ran.
+        RunTaken (map asked_by calls.now) (sheet_of ran.planner) ran.notes.items) }
 {
     let mut planner = Planner::empty();
     let mut notes = Vec::new(heap);

@@ -27,8 +27,8 @@ fn planner_if_possible(checked: CheckedSheet, hours: &mut [Hours]) -> Option<Pla
 impl Planner {
     // Enters a command as `enter` does, but looks for no loop behind a 14.
     pub fn admit(&mut self, command: &Command, hours: &mut [Hours]) -> Result<(), Refusal>
-        ensures { Admitted (sheet_of self.old) (said command.now) hours.old hours.new (sheet_of self.new)
-            result }
+        ensures { Admitted (sheet_of self.old) (said command.now) hours.old hours.new
+            (sheet_of self.new) result }
     {
         if hours.len() < 1024 {
             return Err(Refusal::TooShort);

@@ -1,7 +1,7 @@
 use Rattle.std.proofs.Common.{arith, length-set}
 use Rattle.std.proofs.lemmas.Option.{MatchOption-at_some}
 use Rattle.vessels.proofs.Agreement.{numbered_more}
-use Rattle.vessels.proofs.giving.give.Goals as goal
+use Rattle.vessels.proofs.giving.Timetable.give.Goals as goal
 
 pub loop-place-preserved : goal.loop-place-preserved
 loop-place-preserved c =

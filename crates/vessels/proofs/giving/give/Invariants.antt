@@ -1,6 +1,0 @@
-use Rattle.std.proofs.Common.{◌≡◌, ℕ, ◌<◌, length}
-use Rattle.vessels.specs.Vessels.{Numbered}
-use Rattle.vessels.proofs.giving.give.Given as goal
-
-abbrev pub invariant-loop-place : goal.invariant-loop-place
-invariant-loop-place l = (length l.numbers ≡ 31) × ((i : ℕ) → i < l.place → Numbered l.period l.stock l.placed l.numbers i)
