@@ -21,11 +21,12 @@ pub(crate) fn plan_of<S: Source, C: Chooser>(
     counted: &mut [Counted],
     codes: &mut [u16],
 ) -> Result<Plan, PlanRefusal>
-    ensures { PlanTold (S.Source.sheet source.now).told (C.Chooser.rule chooser.now) stock.now hours.old counted.old codes.old result }
+    ensures { PlanTold (S.Source.sheet source.now).told (C.Chooser.rule chooser.now) stock.now
+        hours.old counted.old codes.old result }
 {
     let mut starts = [0; 31];
     let mut vessels = [0; 31];
-    match plan(
+    plan(
         source,
         stock,
         chooser,
@@ -34,8 +35,6 @@ pub(crate) fn plan_of<S: Source, C: Chooser>(
         codes,
         &mut starts,
         &mut vessels,
-    ) {
-        Ok(()) => Ok(Plan { starts, vessels }),
-        Err(refusal) => Err(refusal),
-    }
+    )?;
+    Ok(Plan { starts, vessels })
 }

@@ -41,7 +41,9 @@ pub fn keep<A: Source, B: Source, C: Chooser>(
     counted: &mut [Counted],
     codes: &mut [u16],
 ) -> Result<Kept, AllocError>
-    ensures { IfOk result (Promise (map asked_by calls.now) (A.Source.sheet source.now).told (B.Source.sheet other.now).told (C.Chooser.rule chooser.now) stock.now hours.old counted.old codes.old) }
+    ensures { IfOk result (Promise (map asked_by calls.now)
+        (A.Source.sheet source.now).told (B.Source.sheet other.now).told
+        (C.Chooser.rule chooser.now) stock.now hours.old counted.old codes.old) }
 {
     let ran = run(heap, calls)?;
     let first = chart_of(source, hours, counted, codes);
