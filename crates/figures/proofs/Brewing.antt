@@ -11,7 +11,7 @@ use Rattle.sheet.specs.Edits.{replaced}
 use Rattle.sheet.specs.Sheets.{HasStep, without_name}
 use Rattle.sheet.specs.Timetables.{Timetable, start, Lawful}
 use Rattle.vessels.specs.declared.placed.Placed.{Placed}
-use Rattle.windows.specs.Placing.{start_of, starts, view_of, placed_at, Reached, further, Filled}
+use Rattle.windows.specs.Placing.{starts, view_of, placed_at, Reached, further, Filled}
 use Rattle.windows.specs.Windows.{IsWindow, Waiting, IsNext}
 use Rattle.figures.specs.Example.{brew, brew_beside}
 use Rattle.figures.proofs.Written.{lawful_test}
@@ -82,7 +82,7 @@ module _ (d : ℕ) (tried : Tried d) where
   no_fifth : (n : ℕ) → HasStep (brew_beside d) (suc (suc (suc (suc (suc n))))) → ⊥
   no_fifth n there = true≢false (sym there ∙ no_step 27 n)
 
-  starter_window : (placed : List Placed) → ((any : List (Option ℤ)) → agree_test placed (hours 0 6 26 any) ≡ true)
+  starter_window : (placed : List (Option Placed)) → ((any : List (Option ℤ)) → agree_test placed (hours 0 6 26 any) ≡ true)
       → IsWindow (brew_beside d) (starts placed) 4 (pos 0) (pos (60 - d))
   starter_window placed agrees =
       window_by (brew_beside d) placed 4 (pos 0) (pos (60 - d))
@@ -94,7 +94,7 @@ module _ (d : ℕ) (tried : Tried d) where
       let short = tried.short in
       (low, omega (arith, ints)))
 
-  starter_wide : (placed : List Placed) → ((any : List (Option ℤ)) → agree_test placed (hours 0 6 26 any) ≡ true)
+  starter_wide : (placed : List (Option Placed)) → ((any : List (Option ℤ)) → agree_test placed (hours 0 6 26 any) ≡ true)
       → (m : ℕ) → HasStep (brew_beside d) (suc (suc (suc (suc m))))
       → Roomy (brew_beside d) (starts placed) (suc (suc (suc (suc m)))) (pos 30)
   starter_wide placed agrees zero there =
@@ -148,31 +148,30 @@ module _ (d : ℕ) (tried : Tried d) where
       → rule.hour (view_of (brew_beside d) mashed 2 20 1 6 36) ≡ 6
       → rule.hour (view_of (brew_beside d) fermented 3 4 2 26 48) ≡ 26
       → rule.hour (view_of (brew_beside d) cropped 4 d 1 0 (60 - d)) ≡ hour
-      → is_some (start_of (placed_at hour d 1)) ≡ true
-      → Filled (brew_beside d) rule (replaced cropped 4 (placed_at hour d 1))
-  beside_filled rule hour one two three four there =
+      → Filled (brew_beside d) rule (replaced cropped 4 (Some (placed_at hour d 1)))
+  beside_filled rule hour one two three four =
       record {
         reached =
-            subst (λ (h : ℕ). Reached (brew_beside d) rule (replaced cropped 4 (placed_at h d 1))) four
+            subst (λ (h : ℕ). Reached (brew_beside d) rule (replaced cropped 4 (Some (placed_at h d 1)))) four
             (further cropped 4 d 1 0 (60 - d)
             (three_placed (brew_beside d) (starter_at 0) beside_course rule one two three)
             starter_next refl (starter_window cropped (λ any. refl)));
         none_left = none_left;
       }
     where
-      none_left : (n : ℕ) → Waiting (brew_beside d) (starts (replaced cropped 4 (placed_at hour d 1))) n → ⊥
+      none_left : (n : ℕ) → Waiting (brew_beside d) (starts (replaced cropped 4 (Some (placed_at hour d 1)))) n → ⊥
       none_left zero w = false≢true w.there
       none_left (suc zero) w = true≢false w.not_placed
       none_left (suc (suc zero)) w = true≢false w.not_placed
       none_left (suc (suc (suc zero))) w = true≢false w.not_placed
-      none_left (suc (suc (suc (suc zero)))) w = true≢false (sym there ∙ w.not_placed)
+      none_left (suc (suc (suc (suc zero)))) w = true≢false w.not_placed
       none_left (suc (suc (suc (suc (suc n))))) w = no_fifth n w.there
 
 -- beside a starter of 6 hours, under earliest
-pub six_filled : Filled (brew_beside 6) earliest (replaced cropped 4 (placed_at 0 6 1))
+pub six_filled : Filled (brew_beside 6) earliest (replaced cropped 4 (Some (placed_at 0 6 1)))
 six_filled =
     beside_filled 6 (record { short = lit≤ tt; early = refl; late = refl; long = refl; aged = refl; end = refl })
-    earliest 0 refl refl refl refl refl
+    earliest 0 refl refl refl refl
 
 -- an hour that no other of the window beats is the one that least crowded names
 named : (v : View) (hour : ℕ) → IsLeastCrowded v hour → least_crowded_hour v ≡ hour
@@ -210,9 +209,9 @@ starter_named =
     })
 
 -- beside a starter of 4 hours, under least crowded
-pub four_filled : Filled (brew_beside 4) least_crowded (replaced cropped 4 (placed_at 2 4 1))
+pub four_filled : Filled (brew_beside 4) least_crowded (replaced cropped 4 (Some (placed_at 2 4 1)))
 four_filled =
     beside_filled 4 (record { short = lit≤ tt; early = refl; late = refl; long = refl; aged = refl; end = refl })
     least_crowded 2 (first_named (view_of (brew_beside 4) none_yet 1 6 0 0 30) refl)
     (first_named (view_of (brew_beside 4) mashed 2 20 1 6 36) refl)
-    (first_named (view_of (brew_beside 4) fermented 3 4 2 26 48) refl) starter_named refl
+    (first_named (view_of (brew_beside 4) fermented 3 4 2 26 48) refl) starter_named

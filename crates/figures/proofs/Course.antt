@@ -1,5 +1,5 @@
 -- Mash, ferment and crop placed one after the other, whatever further steps the sheet has. Assumes nothing.
-use Rattle.std.proofs.Common.{◌≡◌, ℕ, zero, suc, ◌<◌, true, ◌⊎◌, List, ◌∷◌, replicate, ℤ, pos, ◌+ℤ◌, ◌≤ℤ◌, is_some, Some, Option, refl, ap, subst, inl, inr, arith}
+use Rattle.std.proofs.Common.{◌≡◌, ℕ, zero, suc, ◌<◌, true, ◌⊎◌, List, ◌∷◌, replicate, ℤ, pos, ◌+ℤ◌, ◌≤ℤ◌, is_some, Some, None, Option, refl, ap, subst, inl, inr, arith}
 use lib.Signed.{le_z_yes}
 use Rattle.std.proofs.lemmas.Int.{ints}
 use Rattle.std.proofs.lemmas.Bool.{false≢true, true≢false}
@@ -8,7 +8,7 @@ use Rattle.sheet.specs.Edits.{replaced}
 use Rattle.sheet.specs.Sheets.{RuleSheet, step_at, HasStep}
 use Rattle.sheet.specs.Timetables.{Timetable, start, Lawful}
 use Rattle.vessels.specs.declared.placed.Placed.{Placed}
-use Rattle.windows.specs.Placing.{not_placed, starts, view_of, placed_at, Reached, nothing, further}
+use Rattle.windows.specs.Placing.{starts, view_of, placed_at, Reached, nothing, further}
 use Rattle.windows.specs.Windows.{IsWindow, Waiting, IsNext}
 use Rattle.figures.proofs.Written.{lawful_test}
 use Rattle.figures.proofs.Filling.{agree_test, starts_at, window_by, Roomy, next_by}
@@ -18,17 +18,17 @@ abbrev pub hours : ℕ → ℕ → ℕ → List (Option ℤ) → List (Option �
 hours a b c rest = Some (pos a) ∷ Some (pos b) ∷ Some (pos c) ∷ rest
 
 -- the steps placed so far
-abbrev pub none_yet : List Placed
-none_yet = replicate 31 not_placed
+abbrev pub none_yet : List (Option Placed)
+none_yet = replicate 31 None
 
-abbrev pub mashed : List Placed
-mashed = replaced none_yet 1 (placed_at 0 6 0)
+abbrev pub mashed : List (Option Placed)
+mashed = replaced none_yet 1 (Some (placed_at 0 6 0))
 
-abbrev pub fermented : List Placed
-fermented = replaced mashed 2 (placed_at 6 20 1)
+abbrev pub fermented : List (Option Placed)
+fermented = replaced mashed 2 (Some (placed_at 6 20 1))
 
-abbrev pub cropped : List Placed
-cropped = replaced fermented 3 (placed_at 26 4 2)
+abbrev pub cropped : List (Option Placed)
+cropped = replaced fermented 3 (Some (placed_at 26 4 2))
 
 -- What the rules ask of the three starts.
 pub record Limits (x y z : ℤ) : Type 0 where
@@ -48,7 +48,7 @@ pub record Course (s : RuleSheet) (rest : List (Option ℤ)) : Type 0 where
   pub late : lawful_test s (hours 30 36 56 rest) ≡ true
   pub long : lawful_test s (hours 0 36 56 rest) ≡ true
   pub aged : lawful_test s (hours 0 6 48 rest) ≡ true
-  pub wide : (placed : List Placed) → ((any : List (Option ℤ)) → agree_test placed (hours 0 6 26 any) ≡ true)
+  pub wide : (placed : List (Option Placed)) → ((any : List (Option ℤ)) → agree_test placed (hours 0 6 26 any) ≡ true)
       → (m : ℕ) → HasStep s (suc (suc (suc (suc m)))) → Roomy s (starts placed) (suc (suc (suc (suc m)))) (pos 30)
 
 module _ (s : RuleSheet) (rest : List (Option ℤ)) (course : Course s rest) where
@@ -157,11 +157,11 @@ module _ (s : RuleSheet) (rest : List (Option ℤ)) (course : Course s rest) whe
       → rule.hour (view_of s mashed 2 20 1 6 36) ≡ 6 → rule.hour (view_of s fermented 3 4 2 26 48) ≡ 26
       → Reached s rule cropped
   three_placed rule one two three =
-      subst (λ (hour : ℕ). Reached s rule (replaced fermented 3 (placed_at hour 4 2))) three
+      subst (λ (hour : ℕ). Reached s rule (replaced fermented 3 (Some (placed_at hour 4 2)))) three
       (further fermented 3 4 2 26 48
-      (subst (λ (hour : ℕ). Reached s rule (replaced mashed 2 (placed_at hour 20 1))) two
+      (subst (λ (hour : ℕ). Reached s rule (replaced mashed 2 (Some (placed_at hour 20 1)))) two
       (further mashed 2 20 1 6 36
-      (subst (λ (hour : ℕ). Reached s rule (replaced none_yet 1 (placed_at hour 6 0))) one
+      (subst (λ (hour : ℕ). Reached s rule (replaced none_yet 1 (Some (placed_at hour 6 0)))) one
       (further none_yet 1 6 0 0 30 nothing mash_next course.mash mash_window))
       ferment_next course.ferment ferment_window))
       crop_next course.crop crop_window)

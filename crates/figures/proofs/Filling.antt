@@ -1,13 +1,12 @@
 -- Windows, the next step and the filling of a timetable, shown by timetables that are written out. Assumes nothing.
-use Rattle.std.proofs.Common.{◌≡◌, ℕ, zero, suc, ◌<◌, Bool, true, false, cond, ◌&&◌, ◌⊎◌, List, [], ◌∷◌, get_or, ℤ, pos, ◌-ℤ◌, ◌≤ℤ◌, ◌<ℤ◌, is_some, Some, None, Option, unwrap_or, sym, refl, ap, ◌∙◌, subst, inl, inr, arith}
+use Rattle.std.proofs.Common.{◌≡◌, ℕ, zero, suc, ◌<◌, Bool, true, false, ◌&&◌, ◌⊎◌, List, [], ◌∷◌, get_or, ℤ, pos, ◌-ℤ◌, ◌≤ℤ◌, ◌<ℤ◌, is_some, Some, None, Option, unwrap_or, sym, refl, ap, ◌∙◌, subst, inl, inr, arith}
 use lib.Signed.{le_z}
 use Rattle.std.proofs.lemmas.Int.{ints}
 use Rattle.std.proofs.lemmas.Bool.{and_parts, false≢true}
 use Rattle.sheet.specs.Sheets.{RuleSheet}
 use Rattle.sheet.specs.Timetables.{Timetable, start, Lawful}
 use Rattle.vessels.specs.declared.placed.Placed.{Placed}
-use Rattle.windows.specs.Crowds.{is_placed}
-use Rattle.windows.specs.Placing.{not_placed, start_of, starts}
+use Rattle.windows.specs.Placing.{start_of, starts}
 use Rattle.windows.specs.Windows.{Agrees, IsWindow, IsSlack, Waiting, IsNext}
 use Rattle.windows.proofs.Single.{slack_unique}
 use Rattle.figures.proofs.Written.{written, lawful_test, written_lawful}
@@ -18,15 +17,16 @@ hour_test None hour = false
 hour_test (Some x) hour = le_z x hour && le_z hour x
 
 -- a written start is that of the step, if the step is placed
-abbrev pub agrees_test : Placed → Option ℤ → Bool
-agrees_test step o = cond (is_placed step) (hour_test o (pos step.start)) true
+abbrev pub agrees_test : Option Placed → Option ℤ → Bool
+agrees_test None o = true
+agrees_test (Some step) o = hour_test o (pos step.start)
 
 abbrev pub behind : List (Option ℤ) → List (Option ℤ)
 behind [] = []
 behind (o ∷ table) = table
 
 -- the written starts are those of the steps placed
-abbrev pub agree_test : List Placed → List (Option ℤ) → Bool
+abbrev pub agree_test : List (Option Placed) → List (Option ℤ) → Bool
 agree_test [] table = true
 agree_test (step ∷ steps) table = agrees_test step (get_or table 0 None) && agree_test steps (behind table)
 
@@ -34,28 +34,27 @@ behind_at : (table : List (Option ℤ)) (n : ℕ) → get_or (behind table) n No
 behind_at [] n = refl
 behind_at (o ∷ table) n = refl
 
-is_hour : (placed : Bool) (o : Option ℤ) (x hour : ℤ) → cond placed (hour_test o x) true ≡ true
-    → cond placed (Some x) None ≡ Some hour → o ≡ Some hour
-is_hour true None x hour passed is = absurd (false≢true passed)
-is_hour true (Some y) x hour passed is =
-    let two = and_parts (le_z y x) (le_z x y) passed in
+is_hour : (step : Option Placed) (o : Option ℤ) (hour : ℤ) → agrees_test step o ≡ true → start_of step ≡ Some hour → o ≡ Some hour
+is_hour None o hour passed is = absurd (false≢true (ap is_some is))
+is_hour (Some step) None hour passed is = absurd (false≢true passed)
+is_hour (Some step) (Some y) hour passed is =
+    let two = and_parts (le_z y (pos step.start)) (le_z (pos step.start) y) passed in
     let low = two.0 in
     let high = two.1 in
-    let same : y ≡ x = omega (arith, ints) in
+    let same : y ≡ pos step.start = omega (arith, ints) in
     ap Some same ∙ is
-is_hour false o x hour passed is = absurd (false≢true (ap is_some is))
 
-each_agrees : (placed : List Placed) (table : List (Option ℤ)) → agree_test placed table ≡ true
-    → (n : ℕ) (hour : ℤ) → start_of (get_or placed n not_placed) ≡ Some hour → get_or table n None ≡ Some hour
+each_agrees : (placed : List (Option Placed)) (table : List (Option ℤ)) → agree_test placed table ≡ true
+    → (n : ℕ) (hour : ℤ) → start_of (get_or placed n None) ≡ Some hour → get_or table n None ≡ Some hour
 each_agrees [] table passed n hour is = absurd (false≢true (ap is_some is))
 each_agrees (step ∷ steps) table passed zero hour is =
     let here = (and_parts (agrees_test step (get_or table 0 None)) (agree_test steps (behind table)) passed).0 in
-    is_hour (is_placed step) (get_or table 0 None) _ hour here is
+    is_hour step (get_or table 0 None) hour here is
 each_agrees (step ∷ steps) table passed (suc n) hour is =
     let later = (and_parts (agrees_test step (get_or table 0 None)) (agree_test steps (behind table)) passed).1 in
     sym (behind_at table n) ∙ each_agrees steps (behind table) later n hour is
 
-pub written_agrees : (placed : List Placed) (table : List (Option ℤ)) → agree_test placed table ≡ true
+pub written_agrees : (placed : List (Option Placed)) (table : List (Option ℤ)) → agree_test placed table ≡ true
     → Agrees (starts placed) (written table)
 written_agrees placed table passed zero hour is = absurd (false≢true (ap is_some is))
 written_agrees placed table passed (suc n) hour is = each_agrees placed table passed n hour is
@@ -65,13 +64,13 @@ pub starts_at : (t : Timetable) (n : ℕ) (hour : ℤ) → t (suc n) ≡ Some ho
 starts_at t n hour is = ap (λ o. unwrap_or o (pos 0)) is
 
 -- A lawful timetable, written out, that agrees with the starts placed and starts step n at an hour.
-pub record Witness (s : RuleSheet) (placed : List Placed) (n : ℕ) (hour : ℤ) : Type 0 where
+pub record Witness (s : RuleSheet) (placed : List (Option Placed)) (n : ℕ) (hour : ℤ) : Type 0 where
   pub table : List (Option ℤ)
   pub lawful : lawful_test s table ≡ true
   pub agrees : agree_test placed table ≡ true
   pub has : start (written table) n ≡ hour
 
-pub window_by : (s : RuleSheet) (placed : List Placed) (n : ℕ) (first last : ℤ)
+pub window_by : (s : RuleSheet) (placed : List (Option Placed)) (n : ℕ) (first last : ℤ)
     → Witness s placed n first → Witness s placed n last
     → ((t : Timetable) → Lawful s t → Agrees (starts placed) t → (first ≤ℤ start t n) × (start t n ≤ℤ last))
     → IsWindow s (starts placed) n first last

@@ -1,6 +1,6 @@
 -- The cellar's worked example: mash, ferment and crop, one after the other, and the cropped yeast ready for the
 -- fermentation two brews later. Assumes nothing.
-use Rattle.std.specs.Prelude.{ℕ, List, [], ◌∷◌, replicate, Some, None, codes}
+use Rattle.std.specs.Prelude.{ℕ, List, [], ◌∷◌, replicate, Some, None, Option, codes}
 use Rattle.sheet.specs.declared.forms.Rule.TheVariants.{Free, After, Within}
 use Rattle.sheet.specs.declared.forms.Step.{Step}
 use Rattle.sheet.specs.declared.forms.Sheet.{Sheet}
@@ -49,8 +49,8 @@ abbrev pub no_brew : RuleSheet
 no_brew = rule_sheet empty_sheet
 
 -- Mash, ferment and crop at the hours 0, 6 and 26, and what is said of step 4 and all that follow.
-abbrev pub started : List Placed → List Placed
-started more = placed_at 0 6 0 ∷ placed_at 6 20 1 ∷ placed_at 26 4 2 ∷ more
+abbrev pub started : List (Option Placed) → List (Option Placed)
+started more = Some (placed_at 0 6 0) ∷ Some (placed_at 6 20 1) ∷ Some (placed_at 26 4 2) ∷ more
 
 -- Vessel 1 for each of them, and numbers for all steps that follow.
 abbrev pub in_first_vessels : List ℕ → List ℕ

@@ -1,5 +1,5 @@
 -- The figures of the worked example, each as the definitions give it. Assumes nothing.
-use Rattle.std.specs.Prelude.{◌≡◌, ℕ, List, [], ◌∷◌, replicate, pos, neg_ℤ, ◌≤ℤ◌}
+use Rattle.std.specs.Prelude.{◌≡◌, ℕ, List, [], ◌∷◌, replicate, pos, neg_ℤ, ◌≤ℤ◌, Some, None}
 use Rattle.loops.specs.Loops.{codes_of}
 use Rattle.sheet.specs.declared.forms.Link.{Link}
 use Rattle.sheet.specs.Layers.{at_period}
@@ -10,7 +10,7 @@ use Rattle.sheet.specs.Waits.{IsWait, IsBound}
 use Rattle.choose.specs.Choosing.{earliest, least_crowded}
 use Rattle.plan.specs.Plans.{Settled}
 use Rattle.vessels.specs.Vessels.{all, missing}
-use Rattle.windows.specs.Placing.{not_placed, placed_at}
+use Rattle.windows.specs.Placing.{placed_at}
 use Rattle.figures.specs.Example.{brew, brew_within, brew_beside, no_brew, one_of_each, started, in_first_vessels}
 
 -- The sheet has a lawful timetable.
@@ -45,9 +45,9 @@ pub record Figures : Type 0 where
   pub within_26 : Accepted (brew_within 26)
   pub within_25 : Refused (brew_within 25)
   -- earliest starts the three steps at the hours 0, 6 and 26
-  pub by_earliest : Settled brew earliest one_of_each (started (replicate 28 not_placed)) (all (in_first_vessels (replicate 28 0)))
+  pub by_earliest : Settled brew earliest one_of_each (started (replicate 28 None)) (all (in_first_vessels (replicate 28 0)))
   pub bound_of_none : IsBound no_brew 1
   -- earliest starts a step 4 of 6 hours at hour zero, while the ferment of the brew before holds the only vessel
-  pub six_beside : Settled (brew_beside 6) earliest one_of_each (started (placed_at 0 6 1 ∷ replicate 27 not_placed)) (missing 4)
+  pub six_beside : Settled (brew_beside 6) earliest one_of_each (started (Some (placed_at 0 6 1) ∷ replicate 27 None)) (missing 4)
   -- least crowded starts a step 4 of 4 hours at hour 2, in the vessel that the ferment has left
-  pub four_beside : Settled (brew_beside 4) least_crowded one_of_each (started (placed_at 2 4 1 ∷ replicate 27 not_placed)) (all (in_first_vessels (1 ∷ replicate 27 0)))
+  pub four_beside : Settled (brew_beside 4) least_crowded one_of_each (started (Some (placed_at 2 4 1) ∷ replicate 27 None)) (all (in_first_vessels (1 ∷ replicate 27 0)))

@@ -1,5 +1,5 @@
 -- The step with the least slack is the next step. Assumes nothing.
-use Rattle.std.proofs.Common.{◌≡◌, ℕ, ◌+◌, ◌-◌, ◌<◌, Bool, true, false, cond, List, length, get_or, ℤ, pos, ◌-ℤ◌, ◌<ℤ◌, is_some, Some, None, Option, sym, refl, ap, ◌∙◌, subst, ⊎_elim, zero-add, add-one, arith}
+use Rattle.std.proofs.Common.{◌≡◌, ℕ, ◌+◌, ◌-◌, ◌<◌, false, List, length, get_or, ℤ, ◌-ℤ◌, ◌<ℤ◌, is_some, Some, None, Option, sym, refl, ap, ◌∙◌, subst, ⊎_elim, zero-add, add-one, arith}
 use Rattle.std.specs.Option.{option_map}
 use Rattle.std.specs.List.{enumerate_from, zip}
 use Rattle.std.proofs.lemmas.List.{get_or_default}
@@ -16,10 +16,9 @@ use Rattle.sheet.specs.Sheets.{RuleSheet, HasStep}
 use Rattle.sheet.specs.Timetables.{Timetable}
 use Rattle.vessels.specs.Vessels.{at}
 use Rattle.vessels.specs.declared.placed.Placed.{Placed}
-use Rattle.windows.specs.Crowds.{is_placed}
-use Rattle.windows.specs.Placing.{not_placed, starts}
+use Rattle.windows.specs.Placing.{start_of, starts}
 use Rattle.windows.specs.Windows.{IsSlack, Waiting}
-use Rattle.windows.proofs.Narrowing.{some_if, some_inj}
+use Rattle.windows.proofs.Narrowing.{some_inj}
 use Rattle.windows.proofs.Single.{slack_unique}
 use Rattle.windows.proofs.Steps.{step_numbers}
 
@@ -40,12 +39,12 @@ takes_lead slacks place hours told held so is lead less = record {
 }
 
 -- what a pass over windows and steps with their places gives at the i-th turn
-module _ (windows : List (Option Window)) (placed : List Placed) (all_windows : length windows ≡ 31) (all_steps : length placed ≡ 31) where
+module _ (windows : List (Option Window)) (placed : List (Option Placed)) (all_windows : length windows ≡ 31) (all_steps : length placed ≡ 31) where
   pub length_rows : length (enumerate_from 0 (zip windows placed)) ≡ 31
   length_rows = omega (arith, length-enumerate_from 0 (zip windows placed), length-zip windows placed)
 
-  module _ (i place : ℕ) (window : Option Window) (step : Placed) (low : i < length (enumerate_from 0 (zip windows placed))) (is : (place, (window, step)) ≡ get_or (enumerate_from 0 (zip windows placed)) i (place, (window, step))) where
-    here : ◌≡◌ {A = ℕ × (Option Window × Placed)} (place, (window, step)) (0 + i, (get_or windows i window, get_or placed i step))
+  module _ (i place : ℕ) (window : Option Window) (step : Option Placed) (low : i < length (enumerate_from 0 (zip windows placed))) (is : (place, (window, step)) ≡ get_or (enumerate_from 0 (zip windows placed)) i (place, (window, step))) where
+    here : ◌≡◌ {A = ℕ × (Option Window × Option Placed)} (place, (window, step)) (0 + i, (get_or windows i window, get_or placed i step))
     here =
         is ∙ get_or-enumerate_from 0 (zip windows placed) i (place, (window, step)) (omega (arith, length-enumerate_from 0 (zip windows placed)))
         ∙ ap (λ row. (0 + i, row)) (get_or-zip windows placed i (window, step) (omega (arith, length_rows)) (omega (arith, length_rows)))
@@ -57,33 +56,35 @@ module _ (windows : List (Option Window)) (placed : List Placed) (all_windows : 
     slack_at =
         ap (λ row. slack_left row.1.0 row.1.1) here
         ∙ ap (λ w. slack_left w (get_or placed i step)) (get_or_default windows i window None (omega (arith, length_rows)))
-        ∙ ap (slack_left (get_or windows i None)) (get_or_default placed i step (record { start = 0; duration = 0; kind = 0 }) (omega (arith, length_rows)))
+        ∙ ap (slack_left (get_or windows i None)) (get_or_default placed i step None (omega (arith, length_rows)))
 
 -- a slack is that of a step which waits
-slack_tells : (s : RuleSheet) (t : Timetable) (n : ℕ) (o : Option Window) (given : Bool) (h : ℤ) → Tells s t n o → cond given None (option_map (λ w. w.last -ℤ w.first) o) ≡ Some h → (given ≡ false) × HasStep s n × IsSlack s t n h
-slack_tells s t n None true h told e = absurd (false≢true (ap is_some e))
-slack_tells s t n None false h told e = absurd (false≢true (ap is_some e))
-slack_tells s t n (Some w) true h told e = absurd (false≢true (ap is_some e))
-slack_tells s t n (Some w) false h told e = (refl, told.0, record { first = w.first; last = w.last; window = told.1; between = sym (some_inj _ h e) })
+slack_tells : (s : RuleSheet) (t : Timetable) (n : ℕ) (o : Option Window) (given : Option Placed) (h : ℤ) → Tells s t n o → slack_left o given ≡ Some h → (is_some given ≡ false) × HasStep s n × IsSlack s t n h
+slack_tells s t n o (Some step) h told e = absurd (false≢true (ap is_some e))
+slack_tells s t n None None h told e = absurd (false≢true (ap is_some e))
+slack_tells s t n (Some w) None h told e = (refl, told.0, record { first = w.first; last = w.last; window = told.1; between = sym (some_inj _ h e) })
 
 -- and a step which waits has a slack
-waits_tells : (s : RuleSheet) (t : Timetable) (n : ℕ) (o : Option Window) (given : Bool) → Tells s t n o → HasStep s n → given ≡ false → (h : ℤ) × (cond given None (option_map (λ w. w.last -ℤ w.first) o) ≡ Some h)
-waits_tells s t n None given told there open_step = absurd (true≢false (sym there ∙ told))
-waits_tells s t n (Some w) given told there open_step = (w.last -ℤ w.first, ap (λ b. cond b None (Some (w.last -ℤ w.first))) open_step)
+waits_tells : (s : RuleSheet) (t : Timetable) (n : ℕ) (o : Option Window) (given : Option Placed) → Tells s t n o → HasStep s n → is_some given ≡ false → (h : ℤ) × (slack_left o given ≡ Some h)
+waits_tells s t n o (Some step) told there open_step = absurd (true≢false open_step)
+waits_tells s t n None None told there open_step = absurd (true≢false (sym there ∙ told))
+waits_tells s t n (Some w) None told there open_step = (w.last -ℤ w.first, refl)
 
-module _ (windows : List (Option Window)) (placed : List Placed) (long : length placed ≡ 31) where
-  -- whether step i + 1 is placed, read at its place
-  pub given_at : (i : ℕ) → i < 31 → is_some (starts placed (i + 1)) ≡ is_placed (at placed i)
-  given_at i low =
-      ap (λ m. is_some (starts placed m)) (add-one i)
-      ∙ some_if (is_placed (get_or placed i not_placed)) (pos (get_or placed i not_placed).start)
-      ∙ ap is_placed (get_or_default placed i not_placed (record { start = 0; duration = 0; kind = 0 }) (omega arith))
+-- a step is placed exactly if it has a start
+has_start : (step : Option Placed) → is_some (start_of step) ≡ is_some step
+has_start None = refl
+has_start (Some step) = refl
 
+-- whether step i + 1 is placed, read at its place
+pub given_at : (placed : List (Option Placed)) (i : ℕ) → is_some (starts placed (i + 1)) ≡ is_some (at placed i)
+given_at placed i = ap (λ m. is_some (starts placed m)) (add-one i) ∙ has_start (at placed i)
+
+module _ (windows : List (Option Window)) (placed : List (Option Placed)) where
   module _ (s : RuleSheet) (ok : Sound s) (told : Told s (starts placed) windows) where
     slack_here : (i : ℕ) → i < 31 → (h : ℤ) → slacks_left windows placed i ≡ Some h → Waiting s (starts placed) (i + 1) × IsSlack s (starts placed) (i + 1) h
     slack_here i low h e =
-        let tells = slack_tells s (starts placed) (i + 1) (get_or windows i None) (is_placed (at placed i)) h (told.each i low) e in
-        (record { there = tells.1; not_placed = given_at i low ∙ tells.0 }, tells.2)
+        let tells = slack_tells s (starts placed) (i + 1) (get_or windows i None) (at placed i) h (told.each i low) e in
+        (record { there = tells.1; not_placed = given_at placed i ∙ tells.0 }, tells.2)
 
     -- a waiting step stands at a place with its slack
     waiting_at : (n : ℕ) → Waiting s (starts placed) n → (i : ℕ) × (i < 31) × (i + 1 ≡ n) × (h : ℤ) × (slacks_left windows placed i ≡ Some h)
@@ -91,9 +92,9 @@ module _ (windows : List (Option Window)) (placed : List Placed) (long : length 
         let number = step_numbers s ok n waiting.there in
         let low : n - 1 < 31 = omega (arith, number.0, number.1) in
         let same : n - 1 + 1 ≡ n = omega (arith, number.0) in
-        let tells = waits_tells s (starts placed) (n - 1 + 1) (get_or windows (n - 1) None) (is_placed (at placed (n - 1))) (told.each (n - 1) low)
+        let tells = waits_tells s (starts placed) (n - 1 + 1) (get_or windows (n - 1) None) (at placed (n - 1)) (told.each (n - 1) low)
         (subst (HasStep s) (sym same) waiting.there)
-        (sym (given_at (n - 1) low) ∙ ap (λ m. is_some (starts placed m)) same ∙ waiting.not_placed) in
+        (sym (given_at placed (n - 1)) ∙ ap (λ m. is_some (starts placed m)) same ∙ waiting.not_placed) in
         (n - 1, low, same, tells.0, tells.1)
 
   none_next : Leader (slacks_left windows placed) 31 None → NamesNext windows placed None

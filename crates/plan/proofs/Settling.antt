@@ -3,7 +3,7 @@ use Rattle.std.proofs.Common.{◌≡◌, ℕ, ◌<◌, List, ◌++◌, length, g
 use Rattle.std.proofs.lemmas.List.{length-map, get_or-map, ext_get_or}
 use Rattle.std.proofs.lemmas.Bool.{true≢false, false≢true}
 use Rattle.choose.specs.Choosing.{HourRule}
-use Rattle.plan.specs.Plans.{start_hours, Settled, Written, Wrote}
+use Rattle.plan.specs.Plans.{written_start, start_hours, Settled, Written, Wrote}
 use Rattle.sheet.specs.Sheets.{RuleSheet}
 use Rattle.sheet.specs.Timetables.{Lawful}
 use Rattle.vessels.proofs.Outcomes.{outcome_only}
@@ -18,14 +18,14 @@ use Rattle.windows.specs.Placing.{Filled, starts as starts_of}
 use Rattle.windows.proofs.Course.{filled_unique}
 
 -- start hours read place by place
-pub hours_are : (placed : List Placed) (hours : List ℕ) → length placed ≡ 31 → length hours ≡ 31 → ((i : ℕ) → i < 31 → get_or hours i 0 ≡ (at placed i).start) → hours ≡ start_hours placed
+pub hours_are : (placed : List (Option Placed)) (hours : List ℕ) → length placed ≡ 31 → length hours ≡ 31 → ((i : ℕ) → i < 31 → get_or hours i 0 ≡ written_start (at placed i)) → hours ≡ start_hours placed
 hours_are placed hours long as_long each =
-    ext_get_or 0 hours (start_hours placed) (as_long ∙ sym (length-map placed (λ (step : Placed). step.start) ∙ long))
+    ext_get_or 0 hours (start_hours placed) (as_long ∙ sym (length-map placed written_start ∙ long))
     (λ i low.
     let inside : i < 31 = omega arith in
-    each i inside ∙ sym (get_or-map (λ (step : Placed). step.start) placed i (record { start = 0; duration = 0; kind = 0 }) 0 (omega arith)))
+    each i inside ∙ sym (get_or-map written_start placed i None 0 (omega arith)))
 
-pub settled : (s : RuleSheet) (rule : HourRule) (stock : List ℕ) (placed : List Placed) (outcome : Outcome) → Filled s rule placed → GivesOut s.period stock placed outcome → Settled s rule stock placed outcome
+pub settled : (s : RuleSheet) (rule : HourRule) (stock : List ℕ) (placed : List (Option Placed)) (outcome : Outcome) → Filled s rule placed → GivesOut s.period stock placed outcome → Settled s rule stock placed outcome
 settled s rule stock placed outcome filled gives = record {
   filled = filled;
   by_rule = gives;
@@ -34,7 +34,7 @@ settled s rule stock placed outcome filled gives = record {
       (same, outcome_only s.period stock placed other outcome (subst (λ p. GivesOut s.period stock p other) same by) gives);
 }
 
-module _ (s : RuleSheet) (rule : HourRule) (stock : List ℕ) (placed : List Placed) (filled : Filled s rule placed) (starts starts_after vessels vessels_after : List ℕ) where
+module _ (s : RuleSheet) (rule : HourRule) (stock : List ℕ) (placed : List (Option Placed)) (filled : Filled s rule placed) (starts starts_after vessels vessels_after : List ℕ) where
   pub wrote_all : Lawful s (starts_of placed) → ((numbers : List ℕ) → AllNumbered s.period stock placed numbers → HeldOnce s.period placed numbers) → SharedOut s.period stock placed vessels None vessels_after → starts_after ≡ start_hours placed ++ drop 31 starts → Written s rule stock starts starts_after vessels vessels_after
   wrote_all lawful once gave written = by gave.outcome gave.by_rule gave.answers gave.leaves
     where

@@ -1,9 +1,8 @@
 -- From one stage of filling to the next. Assumes nothing.
-use Rattle.std.proofs.Common.{◌≡◌, ℕ, ◌+◌, ◌-◌, ◌<◌, ◌≤◌, true, false, cond, not, List, get_or, set, replicate, ℤ, pos, ◌≤ℤ◌, is_some, Some, None, Option, sym, ap, ◌∙◌, subst, arith, length-set}
+use Rattle.std.proofs.Common.{◌≡◌, ℕ, ◌+◌, ◌-◌, ◌<◌, ◌≤◌, false, cond, not, List, get_or, set, replicate, ℤ, pos, ◌≤ℤ◌, is_some, is_none, Some, None, Option, sym, ap, ◌∙◌, subst, arith, length-set}
 use Rattle.std.proofs.lemmas.List.{length-replicate}
 use Rattle.std.proofs.lemmas.Int.{ints}
 use Rattle.std.proofs.lemmas.List.Sums.{sum_by-set}
-use Rattle.std.proofs.lemmas.Bool.{ne_eqb}
 use Rattle.choose.specs.Choosing.{HourRule}
 use Rattle.plan.specs.Stages.{Stage, Chosen, left_over}
 use Rattle.plan.specs.Told.{Tells, Told, Within, Narrows}
@@ -18,8 +17,7 @@ use Rattle.sheet.specs.Timetables.{Timetable}
 use Rattle.sheet.specs.Waits.{IsChart}
 use Rattle.vessels.specs.Vessels.{at}
 use Rattle.vessels.specs.declared.placed.Placed.{Placed}
-use Rattle.windows.specs.Crowds.{is_placed}
-use Rattle.windows.specs.Placing.{not_placed, starts, view_of, Reached, nothing, further}
+use Rattle.windows.specs.Placing.{starts, view_of, Reached, nothing, further}
 use Rattle.windows.specs.Windows.{nothing_placed, with_start, IsWindow, IsNext}
 use Rattle.windows.proofs.Single.{first_unique, last_unique}
 use Rattle.windows.proofs.Steps.{starts_more, starts_none, named_hour, window_ordered, window_from_zero, window_in_span}
@@ -42,14 +40,14 @@ window_small sheet placed n first last w =
 pub window_fits : (sheet : SoundSheet) (placed : Timetable) (windows : List (Option Window)) → Told sheet.told placed windows → (n : ℕ) → 0 < n → n ≤ 31 → (w : Window) → get_or windows (n - 1) None ≡ Some w → (pos 0 ≤ℤ w.first) × (w.first ≤ℤ w.last) × (w.last ≤ℤ pos 2000)
 window_fits sheet placed windows told n some few w is = window_small sheet placed n _ _ (window_at sheet.told placed windows told n some few w is)
 
-pub first_stage : (s : RuleSheet) (rule : HourRule) (windows : List (Option Window)) → Told s nothing_placed windows → Stage s rule windows (replicate 31 not_placed)
+pub first_stage : (s : RuleSheet) (rule : HourRule) (windows : List (Option Window)) → Told s nothing_placed windows → Stage s rule windows (replicate 31 None)
 first_stage s rule windows told = record {
   reached = nothing;
   told = subst (λ t. Told s t windows) (sym starts_none) told;
-  long = length-replicate 31 not_placed;
+  long = length-replicate {A = Option Placed} 31 None;
 }
 
-module _ (sheet : SoundSheet) (rule : HourRule) (chart : List ℤ) (is_chart : IsChart sheet.told chart) (windows after : List (Option Window)) (placed : List Placed) (n : ℕ) (step : Placed) (stage : Stage sheet.told rule windows placed) (next : IsNext sheet.told (starts placed) n) (some : 0 < n) (few : n ≤ 31) (chosen : Chosen sheet.told rule placed n step) (narrows : Narrows chart n step.start windows after) where
+module _ (sheet : SoundSheet) (rule : HourRule) (chart : List ℤ) (is_chart : IsChart sheet.told chart) (windows after : List (Option Window)) (placed : List (Option Placed)) (n : ℕ) (step : Placed) (stage : Stage sheet.told rule windows placed) (next : IsNext sheet.told (starts placed) n) (some : 0 < n) (few : n ≤ 31) (chosen : Chosen sheet.told rule placed n step) (narrows : Narrows chart n step.start windows after) where
   is_hour : step.start ≡ rule.hour (view_of sheet.told placed n chosen.duration chosen.kind chosen.first chosen.last)
   is_hour = ap (λ p. p.start) chosen.is
 
@@ -57,11 +55,6 @@ module _ (sheet : SoundSheet) (rule : HourRule) (chart : List ℤ) (is_chart : I
   in_window =
       let named = named_hour sheet.told sheet.sound chart is_chart rule placed n chosen.duration chosen.kind chosen.first chosen.last chosen.window in
       (omega (arith, is_hour, named.0), omega (arith, is_hour, named.1))
-
-  small : step.start < 65535
-  small =
-      let bound = (window_small sheet (starts placed) n _ _ chosen.window).2 in
-      omega (arith, ints, in_window.1)
 
   within : Within windows n (pos step.start)
   within w is =
@@ -72,27 +65,25 @@ module _ (sheet : SoundSheet) (rule : HourRule) (chart : List ℤ) (is_chart : I
       let high = in_window.1 in
       (omega (arith, ints), omega (arith, ints))
 
-  same_list : replaced placed n step ≡ set placed (n - 1) step
-  same_list = sym (replaced_write not_placed placed n step some)
+  same_list : replaced placed n (Some step) ≡ set placed (n - 1) (Some step)
+  same_list = sym (replaced_write None placed n (Some step) some)
 
-  pub next_stage : Stage sheet.told rule after (set placed (n - 1) step)
+  pub next_stage : Stage sheet.told rule after (set placed (n - 1) (Some step))
   next_stage =
       let long = stage.long in
-      let starts_now : starts (set placed (n - 1) step) ≡ with_start (starts placed) n (pos step.start) =
-      ap starts (sym same_list) ∙ starts_more placed n step.start step.duration step.kind (omega arith) (omega arith) small in
+      let starts_now : starts (set placed (n - 1) (Some step)) ≡ with_start (starts placed) n (pos step.start) =
+      ap starts (sym same_list) ∙ starts_more placed n step.start step.duration step.kind (omega arith) (omega arith) in
       record {
-        reached = subst (Reached sheet.told rule) (ap (replaced placed n) (sym chosen.is) ∙ same_list)
+        reached = subst (Reached sheet.told rule) (ap (λ new. replaced placed n (Some new)) (sym chosen.is) ∙ same_list)
             (further placed n chosen.duration chosen.kind chosen.first chosen.last stage.reached next chosen.told chosen.window);
         told = subst (λ t. Told sheet.told t after) (sym starts_now) (narrows sheet.told sheet.sound is_chart (starts placed) stage.told next.waiting within);
-        long = length-set placed (n - 1) step ∙ long;
+        long = length-set placed (n - 1) (Some step) ∙ long;
       }
 
-  pub next_fewer : left_over (set placed (n - 1) step) < left_over placed
+  pub next_fewer : left_over (set placed (n - 1) (Some step)) < left_over placed
   next_fewer =
       let long = stage.long in
-      let waits : is_placed (at placed (n - 1)) ≡ false =
-      sym (given_at windows placed long (n - 1) (omega arith)) ∙ ap (λ m. is_some (starts placed m)) (omega arith) ∙ next.waiting.not_placed in
-      let given : is_placed step ≡ true = ap not (ne_eqb step.start 65535 (λ e. omega (arith, small))) in
-      let before : cond {A = ℕ} (not (is_placed (at placed (n - 1)))) 1 0 ≡ 1 = ap (λ b. cond {A = ℕ} (not b) 1 0) waits in
-      let now : cond {A = ℕ} (not (is_placed step)) 1 0 ≡ 0 = ap (λ b. cond {A = ℕ} (not b) 1 0) given in
-      omega (arith, sum_by-set (λ p. cond (not (is_placed p)) 1 0) placed (n - 1) step (record { start = 0; duration = 0; kind = 0 }) (omega arith))
+      let waits : is_some (at placed (n - 1)) ≡ false =
+      sym (given_at placed (n - 1)) ∙ ap (λ m. is_some (starts placed m)) (omega arith) ∙ next.waiting.not_placed in
+      let before : cond {A = ℕ} (is_none (at placed (n - 1))) 1 0 ≡ 1 = ap (λ b. cond {A = ℕ} (not b) 1 0) waits in
+      omega (arith, sum_by-set (λ p. cond (is_none p) 1 0) placed (n - 1) (Some step) None (omega arith))

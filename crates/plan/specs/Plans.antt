@@ -1,5 +1,5 @@
 -- The answer to a call for a plan. Assumes nothing.
-use Rattle.std.specs.Prelude.{◌≡◌, ℕ, ◌<◌, ◌≤◌, List, ◌++◌, map, length, drop, Ok, Err, Result, slice_index}
+use Rattle.std.specs.Prelude.{◌≡◌, ℕ, ◌<◌, ◌≤◌, List, ◌++◌, map, length, drop, Some, None, Ok, Err, Option, Result, slice_index}
 use Rattle.choose.specs.Choosing.{HourRule}
 use Rattle.kinds.specs.declared.alone.Hours.{Hours}
 use Rattle.kinds.specs.declared.together.Counted.{Counted}
@@ -33,22 +33,27 @@ pub record CountOver (stock : List ℕ) : Type 0 where
   pub kind : ℕ
   pub over : 16 < slice_index stock kind
 
+-- The start hour that is written for a step: 65,535 for an absent one.
+abbrev pub written_start : Option Placed → ℕ
+written_start None = 65535
+written_start (Some step) = step.start
+
 -- The start hours of the steps, in the order of their numbers: 65,535 for an absent step.
-abbrev pub start_hours : List Placed → List ℕ
-start_hours placed = map (λ step. step.start) placed
+abbrev pub start_hours : List (Option Placed) → List ℕ
+start_hours placed = map written_start placed
 
 -- What comes of a sheet, a chooser's rule and a stock: the steps are filled in by the rule, and then vessels are given
 -- out to them. Nothing else can come of them.
-pub record Settled (s : RuleSheet) (rule : HourRule) (stock : List ℕ) (placed : List Placed) (outcome : Outcome) : Type 0 where
+pub record Settled (s : RuleSheet) (rule : HourRule) (stock : List ℕ) (placed : List (Option Placed)) (outcome : Outcome) : Type 0 where
   pub filled : Filled s rule placed
   pub by_rule : GivesOut s.period stock placed outcome
-  pub only : (others : List Placed) (other : Outcome) → Filled s rule others → GivesOut s.period stock others other
+  pub only : (others : List (Option Placed)) (other : Outcome) → Filled s rule others → GivesOut s.period stock others other
       → (others ≡ placed) × (other ≡ outcome)
 
 -- Every step finds a vessel: the start hours and the vessel numbers of the 31 steps go to the front of their buffers,
 -- and what lies behind them stays. The start hours are a lawful timetable, and over all brews no vessel is held twice.
 pub record Written (s : RuleSheet) (rule : HourRule) (stock : List ℕ) (starts starts_after vessels vessels_after : List ℕ) : Type 0 where
-  pub placed : List Placed
+  pub placed : List (Option Placed)
   pub numbers : List ℕ
   pub settled : Settled s rule stock placed (all numbers)
   pub lawful : Lawful s (starts_of placed)
@@ -58,7 +63,7 @@ pub record Written (s : RuleSheet) (rule : HourRule) (stock : List ℕ) (starts 
 
 -- A step, and no lower-numbered one, finds no vessel: both buffers are as they were.
 pub record Lacking (s : RuleSheet) (rule : HourRule) (stock : List ℕ) (step : ℕ) (starts starts_after vessels vessels_after : List ℕ) : Type 0 where
-  pub placed : List Placed
+  pub placed : List (Option Placed)
   pub settled : Settled s rule stock placed (missing step)
   pub starts_kept : starts_after ≡ starts
   pub vessels_kept : vessels_after ≡ vessels

@@ -52,7 +52,7 @@ fn ask<C: Chooser>(
 fn choose_hour<S: Source, C: Chooser>(
     source: &S,
     chooser: &C,
-    placed: &[Placed; 31],
+    placed: &[Option<Placed>; 31],
     step: u8,
     told: (u16, u8),
     window: (u16, u16),
@@ -72,7 +72,7 @@ pub(crate) fn choose_start<S: Source, C: Chooser>(
     source: &S,
     chooser: &C,
     windows: &[Option<Window>; 31],
-    placed: &[Placed; 31],
+    placed: &[Option<Placed>; 31],
     step: u8,
 ) -> Placed
     requires told { Told (S.Source.sheet source.now).told (starts placed.now) windows.now }

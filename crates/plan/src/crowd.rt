@@ -1,32 +1,9 @@
 // How many placed steps of a kind cover each class.
-ghost use Rattle.std.specs.Prelude.{◌≡◌, ◌+◌, ◌<◌, ◌≤◌, ◌⊎◌, ◌↔◌, take, drop, IsTrue};
-ghost use Rattle.choose.specs.Classes.{class, Covers};
+ghost use Rattle.std.specs.Prelude.{◌≡◌, ◌<◌, ◌≤◌, ◌↔◌, take, drop, IsTrue};
+ghost use Rattle.choose.specs.Classes.{Covers};
 ghost use Rattle.windows.specs.Crowds.{covers, counts, crowd, crowds};
 
-use vessels::{ABSENT, Placed};
-
-// The class of an hour.
-fn class_of(hour: u16, period: u16) -> u16
-    requires { 0 < period }
-    ensures value { result ≡ class period hour }
-    ensures below { result < period }
-{
-    hour % period
-}
-
-// Hours from one class on until another comes, where the first class follows the last.
-fn hours_until(from: u16, to: u16, period: u16) -> u16
-    requires from { from < period }
-    requires to { to < period }
-    ensures below { result < period }
-    ensures comes { (from + result ≡ to) ⊎ (from + result ≡ to + period) }
-{
-    if from <= to {
-        to - from
-    } else {
-        period - from + to
-    }
-}
+use vessels::{Placed, hours_until};
 
 // Whether a step covers a class: the class comes up while the step runs.
 fn covers_class(step: Placed, class: u16, period: u16) -> bool
@@ -34,19 +11,19 @@ fn covers_class(step: Placed, class: u16, period: u16) -> bool
     ensures value { result ≡ covers period step.start step.duration class }
     ensures covered { IsTrue result ↔ (Covers period step.start step.duration class) }
 {
-    hours_until(class_of(step.start, period), class, period) < step.duration
+    hours_until(step.start, class, period) < step.duration
 }
 
 // Whether a step is placed, is of a kind and covers a class.
-fn is_counted(step: Placed, period: u16, kind: u8, class: u16) -> bool
+fn is_counted(step: Option<Placed>, period: u16, kind: u8, class: u16) -> bool
     requires { class < period }
     ensures { result ≡ counts period kind class step }
 {
-    step.start != ABSENT && step.kind == kind && covers_class(step, class, period)
+    step.is_some_and(|step| step.kind == kind && covers_class(step, class, period))
 }
 
 // How many placed steps of a kind cover a class.
-fn count(placed: &[Placed; 31], period: u16, kind: u8, class: u16) -> u8
+fn count(placed: &[Option<Placed>; 31], period: u16, kind: u8, class: u16) -> u8
     requires { class < period }
     ensures { result ≡ crowd period kind placed.now class }
 {
@@ -57,7 +34,12 @@ fn count(placed: &[Placed; 31], period: u16, kind: u8, class: u16) -> u8
 }
 
 // Counts for each class of a period how many placed steps of a kind cover it. What lies behind the counts stays.
-pub(crate) fn count_crowd(placed: &[Placed; 31], period: u16, kind: u8, counts: &mut [u8; 999])
+pub(crate) fn count_crowd(
+    placed: &[Option<Placed>; 31],
+    period: u16,
+    kind: u8,
+    counts: &mut [u8; 999],
+)
     requires { period ≤ 999 }
     ensures front { take period counts.new ≡ crowds period kind placed.now }
     ensures rest { drop period counts.new ≡ drop period counts.old }

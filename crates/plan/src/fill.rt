@@ -12,7 +12,7 @@ use super::opening::open_windows;
 use super::window::Window;
 use choose::Chooser;
 use sheet::Source;
-use vessels::{ABSENT, Placed};
+use vessels::Placed;
 
 // Places the next step.
 fn place<S: Source, C: Chooser>(
@@ -20,7 +20,7 @@ fn place<S: Source, C: Chooser>(
     chart: &[i16; 1024],
     chooser: &C,
     windows: &mut [Option<Window>; 31],
-    placed: &mut [Placed; 31],
+    placed: &mut [Option<Placed>; 31],
     step: u8,
 )
     requires chart { IsChart (S.Source.sheet source.now).told chart.now }
@@ -34,25 +34,21 @@ fn place<S: Source, C: Chooser>(
     ensures fewer { left_over placed.new < left_over placed.old }
 {
     let chosen = choose_start(source, chooser, windows, placed, step);
-    placed[step as usize - 1] = chosen;
+    placed[step as usize - 1] = Some(chosen);
     narrow(chart, windows, step, chosen.start);
 }
 
-// Places all steps of the sheet by the chooser's rule. An absent step is left without a start.
+// Places all steps of the sheet by the chooser's rule. An absent step is not placed.
 pub(crate) fn fill<S: Source, C: Chooser>(
     source: &S,
     chart: &[i16; 1024],
     chooser: &C,
-) -> [Placed; 31]
+) -> [Option<Placed>; 31]
     requires { IsChart (S.Source.sheet source.now).told chart.now }
     ensures { Filled (S.Source.sheet source.now).told (C.Chooser.rule chooser.now) result }
 {
     let mut windows = open_windows(source, chart);
-    let mut placed = [Placed {
-        start: ABSENT,
-        duration: 0,
-        kind: 0,
-    }; 31];
+    let mut placed = [None; 31];
     while let Some(step) = next_step(&windows, &placed) {
         place(source, chart, chooser, &mut windows, &mut placed, step);
     }

@@ -3,7 +3,7 @@ ghost use Rattle.std.specs.Prelude.{◌≡◌, ℕ, ◌+◌, ◌↔◌, ℤ, ◌
 ghost use Rattle.plan.specs.Next.{slack_left, slacks_left, Leader, NamesNext};
 
 use super::window::Window;
-use vessels::{ABSENT, Placed};
+use vessels::Placed;
 
 // A waiting step by its place in the table, with its slack.
 #[derive(Clone, Copy)]
@@ -20,13 +20,13 @@ fn slack(window: Window) -> i64
 }
 
 // The slack of a step that is there and not placed.
-fn slack_of(window: Option<Window>, step: Placed) -> Option<i64>
-    ensures { result ≡ slack_left window step }
+fn slack_of(window: Option<Window>, placed: Option<Placed>) -> Option<i64>
+    ensures { result ≡ slack_left window placed }
 {
-    if step.start != ABSENT {
-        return None;
+    match placed {
+        Some(_) => None,
+        None => window.map(slack),
     }
-    window.map(slack)
 }
 
 // Whether the step held so far, which has the smaller number, keeps the lead over a step with another slack.
@@ -51,7 +51,7 @@ fn pick(held: Option<Candidate>, place: usize, slack: Option<i64>) -> Option<Can
 }
 
 // The waiting step with the least slack, the first of them at a tie.
-fn leader(windows: &[Option<Window>; 31], placed: &[Placed; 31]) -> Option<Candidate>
+fn leader(windows: &[Option<Window>; 31], placed: &[Option<Placed>; 31]) -> Option<Candidate>
     ensures { Leader (slacks_left windows.now placed.now) 31 result }
 {
     let mut held = None;
@@ -62,7 +62,7 @@ fn leader(windows: &[Option<Window>; 31], placed: &[Placed; 31]) -> Option<Candi
 }
 
 // The step that is placed next, or none if no step is waiting.
-pub(crate) fn next_step(windows: &[Option<Window>; 31], placed: &[Placed; 31]) -> Option<u8>
+pub(crate) fn next_step(windows: &[Option<Window>; 31], placed: &[Option<Placed>; 31]) -> Option<u8>
     ensures { NamesNext windows.now placed.now result }
 {
     leader(windows, placed).map(|candidate| candidate.place as u8 + 1)

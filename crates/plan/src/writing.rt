@@ -8,17 +8,17 @@ ghost use Rattle.sheet.specs.Timetables.{Lawful};
 ghost use Rattle.windows.specs.Placing.{Filled, starts as starts_of};
 
 use sheet::Source;
-use vessels::{Placed, Refusal, give_out};
+use vessels::{ABSENT, Placed, Refusal, give_out};
 
-// The start hours of all steps: that of step n stands at place n - 1.
-fn hours_of(placed: &[Placed; 31]) -> [u16; 31]
+// The start hours of all steps, 65,535 for an absent one: that of step n stands at place n - 1.
+fn hours_of(placed: &[Option<Placed>; 31]) -> [u16; 31]
     ensures { result ≡ start_hours placed.now }
 {
-    placed.map(|step| step.start)
+    placed.map(|step| step.map_or(ABSENT, |step| step.start))
 }
 
 // Writes the start hours of all steps. What lies behind the 31 hours stays.
-fn write_starts(placed: &[Placed; 31], starts: &mut [u16])
+fn write_starts(placed: &[Option<Placed>; 31], starts: &mut [u16])
     requires { 31 ≤ length starts.old }
     ensures { starts.new ≡ start_hours placed.now ++ drop 31 starts.old }
 {
@@ -29,7 +29,7 @@ fn write_starts(placed: &[Placed; 31], starts: &mut [u16])
 fn give_vessels<S: Source>(
     source: &S,
     stock: &[u8; 8],
-    placed: &[Placed; 31],
+    placed: &[Option<Placed>; 31],
     vessels: &mut [u8],
 ) -> Result<(), Refusal>
     requires { 31 ≤ length vessels.old }
@@ -43,7 +43,7 @@ fn give_vessels<S: Source>(
 pub(crate) fn write_plan<S: Source>(
     source: &S,
     stock: &[u8; 8],
-    placed: &[Placed; 31],
+    placed: &[Option<Placed>; 31],
     starts: &mut [u16],
     vessels: &mut [u8],
 ) -> Result<(), Refusal>

@@ -1,35 +1,52 @@
 -- A plan that was written, as its start hours and vessel numbers. Assumes nothing.
-use Rattle.std.proofs.Common.{◌≡◌, ℕ, zero, suc, ◌+◌, ◌*◌, ◌<◌, ◌≤◌, cond, not, eqb, List, ◌++◌, length, pos, is_some, Some, None, unwrap_or, sym, refl, ap, ◌∙◌, subst, arith, eq-eqb}
-use Rattle.std.proofs.lemmas.List.{append-nil, drop_all, get_or_default}
-use Rattle.std.proofs.lemmas.Bool.{false≢true, true≢false}
+use Rattle.std.proofs.Common.{◌≡◌, ℕ, zero, suc, ◌+◌, ◌*◌, ◌<◌, ◌≤◌, cond, eqb, List, ◌++◌, length, pos, is_some, Some, None, Option, unwrap_or, sym, refl, ap, ◌∙◌, subst, arith}
+use Rattle.std.proofs.lemmas.List.{append-nil, drop_all}
+use Rattle.std.proofs.lemmas.Bool.{false≢true, ne_eqb}
+use Rattle.std.proofs.lemmas.Int.{ints}
+use Rattle.std.proofs.lemmas.Option.{none-some}
 use Rattle.brews.specs.Brews.{Vessel, Holds, HeldOnce}
 use Rattle.choose.specs.Choosing.{HourRule}
-use Rattle.plan.specs.Plans.{CountsFit, start_hours, Settled, Written}
+use Rattle.plan.specs.Plans.{CountsFit, written_start, start_hours, Settled, Written}
 use Rattle.sheet.proofs.Numbered.{numbered-map}
 use Rattle.sheet.specs.Limits.{Sound}
 use Rattle.sheet.specs.Sheets.{RuleSheet, numbered, step_at}
-use Rattle.sheet.specs.Timetables.{Lawful}
-use Rattle.vessels.specs.Vessels.{at, all}
+use Rattle.sheet.specs.Timetables.{start, Lawful}
+use Rattle.vessels.specs.Vessels.{all}
 use Rattle.vessels.specs.declared.placed.Placed.{Placed}
-use Rattle.windows.proofs.Records.{AsTold, reached_long, reached_as_told}
+use Rattle.walks.proofs.Small.{start_within}
+use Rattle.windows.proofs.Records.{AsTold, reached_as_told}
 use Rattle.windows.proofs.Steps.{step_numbers}
-use Rattle.windows.specs.Placing.{not_placed, starts, Filled}
+use Rattle.windows.specs.Placing.{start_of, starts, placed_at, Filled}
 use Rattle.promise.specs.Plans.{timetable_of, hour_of, Holding, NeverTwice, PlanGiven}
 use Rattle.promise.specs.declared.plans.Plan.{Plan}
 
--- the start hours tell the same timetable as the steps
-same_starts : (placed : List Placed) → starts placed ≡ timetable_of (start_hours placed)
-same_starts placed =
-    λ i n. (λ (h : ℕ). cond (not (eqb h 65535)) (Some (pos h)) None) (sym (numbered-map (λ (step : Placed). step.start) not_placed placed n) i)
+-- a start hour that is written and is below 65,535 tells whether the step is placed, and when
+read_back : (o : Option Placed) → ((step : Placed) → o ≡ Some step → step.start < 65535)
+    → start_of o ≡ cond (eqb (written_start o) 65535) None (Some (pos (written_start o)))
+read_back None low = refl
+read_back (Some step) low =
+    let before = low step refl in
+    sym (ap (λ b. cond b None (Some (pos step.start))) (ne_eqb step.start 65535 (λ e. omega arith)))
 
-module _ (s : RuleSheet) (ok : Sound s) (rule : HourRule) (placed : List Placed) (filled : Filled s rule placed) (lawful : Lawful s (starts placed)) where
+module _ (s : RuleSheet) (ok : Sound s) (rule : HourRule) (placed : List (Option Placed)) (filled : Filled s rule placed) (lawful : Lawful s (starts placed)) where
   -- a step of the sheet is placed, with its duration and kind
-  step_placed : (n duration kind : ℕ) → step_at s n ≡ Some (duration, kind) → AsTold s n (numbered not_placed placed n)
+  step_placed : (n duration kind : ℕ) → step_at s n ≡ Some (duration, kind) → AsTold s n (numbered None placed n)
   step_placed n duration kind told = reached_as_told s ok rule placed filled.reached n (lawful.covers n ∙ ap is_some told)
 
-  not_absent : (n duration kind : ℕ) → step_at s n ≡ Some (duration, kind) → (numbered not_placed placed n).start ≡ 65535 → ⊥
-  not_absent n duration kind told absent =
-      true≢false (sym (lawful.covers n ∙ ap is_some told) ∙ ap (λ b. is_some (cond (not b) (Some (pos (numbered not_placed placed n).start)) None)) (eq-eqb _ _ absent))
+  -- a step starts within the span
+  small : (n : ℕ) (step : Placed) → numbered None placed n ≡ Some step → step.start < 65535
+  small zero step is = absurd (none-some step is)
+  small (suc n) step is =
+      let begins : start (starts placed) (suc n) ≡ pos step.start = ap (λ (o : Option Placed). unwrap_or (start_of o) (pos 0)) is in
+      let within = (start_within s (starts placed) lawful (suc n)).1 in
+      let limit = ok.span.1 in
+      omega (arith, ints)
+
+  -- the start hours tell the same timetable as the steps
+  same_starts : starts placed ≡ timetable_of (start_hours placed)
+  same_starts =
+      λ i n.
+      (read_back (numbered None placed n) (small n) ∙ ap (λ h. cond (eqb h 65535) None (Some (pos h))) (sym (numbered-map written_start None placed n))) i
 
   module _ (plan : Plan) (hours : plan.starts ≡ start_hours placed) where
     -- where a plan holds a vessel, so does the list of steps that it was made from
@@ -38,22 +55,21 @@ module _ (s : RuleSheet) (ok : Sound s) (rule : HourRule) (placed : List Placed)
     holds (suc p) brew vessel hour holding =
         let told = holding.told in
         let number = step_numbers s ok (suc p) (ap is_some told) in
-        let long = reached_long s ok rule placed filled.reached in
         let known = step_placed (suc p) holding.duration vessel.kind told in
         let same = ap (λ o. unwrap_or o (0, 0)) (sym known.told ∙ told) in
-        let here : at placed p ≡ numbered not_placed placed (suc p) = get_or_default placed p _ _ (omega arith) in
-        let begins : hour_of plan.starts (suc p) ≡ (at placed p).start =
-        ap (λ hs. numbered 65535 hs (suc p)) hours ∙ numbered-map (λ (step : Placed). step.start) not_placed placed (suc p) ∙ ap (λ (step : Placed). step.start) (sym here) in
-        let lasts : (at placed p).duration ≡ holding.duration = ap (λ (step : Placed). step.duration) (here ∙ known.is) ∙ ap (λ (told : ℕ × ℕ). told.0) same in (
+        let begins : hour_of plan.starts (suc p) ≡ known.start =
+        ap (λ hs. numbered 65535 hs (suc p)) hours ∙ numbered-map written_start None placed (suc p) ∙ ap written_start known.is in
+        let lasts : known.duration ≡ holding.duration = ap (λ (told : ℕ × ℕ). told.0) same in (
           p,
           refl,
           record {
             is_step = omega arith;
-            present = λ absent. not_absent (suc p) holding.duration vessel.kind told (ap (λ (step : Placed). step.start) (sym here) ∙ absent);
-            its_kind = ap (λ (step : Placed). step.kind) (here ∙ known.is) ∙ ap (λ (told : ℕ × ℕ). told.1) same;
+            step = placed_at known.start known.duration known.kind;
+            present = known.is;
+            its_kind = ap (λ (told : ℕ × ℕ). told.1) same;
             its_number = holding.its_number;
             from = subst (λ start. start + brew * s.period ≤ hour) begins holding.from;
-            before = subst (λ last. hour < (at placed p).start + brew * s.period + last) (sym lasts) (subst (λ start. hour < start + brew * s.period + holding.duration) begins holding.before);
+            before = subst (λ last. hour < known.start + brew * s.period + last) (sym lasts) (subst (λ start. hour < start + brew * s.period + holding.duration) begins holding.before);
           },
         )
 
@@ -75,6 +91,6 @@ plan_given s ok rule stock plan starts_before vessels_before short few counts wr
       placed = written.placed;
       settled = subst (λ xs. Settled s rule stock written.placed (all xs)) (sym numbers) written.settled;
       hours = hours;
-      lawful = subst (λ hs. Lawful s (timetable_of hs)) (sym hours) (subst (Lawful s) (same_starts written.placed) written.lawful);
+      lawful = subst (λ hs. Lawful s (timetable_of hs)) (sym hours) (subst (Lawful s) (same_starts s ok rule written.placed written.settled.filled written.lawful) written.lawful);
       once = never_twice s ok rule written.placed written.settled.filled written.lawful plan hours (subst (HeldOnce s.period written.placed) (sym numbers) written.once);
     }

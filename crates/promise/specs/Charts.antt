@@ -1,5 +1,5 @@
 -- What is told of wait charts. Assumes nothing.
-use Rattle.std.specs.Prelude.{◌≡◌, ℕ, ◌<◌, ◌≤◌, Bool, List, length, ℤ, pos, Some, None, Ok, Err, Decides, Option, Result, slice_index_or}
+use Rattle.std.specs.Prelude.{◌≡◌, ℕ, ◌≤◌, ◌↔◌, Bool, List, length, ℤ, Some, None, Ok, Err, IsTrue, Option, Result}
 use Rattle.kinds.specs.declared.alone.Hours.{Hours}
 use Rattle.kinds.specs.declared.together.Counted.{Counted}
 use Rattle.sheet.specs.Sheets.{RuleSheet}
@@ -21,13 +21,9 @@ ChartTold s hours counted codes (Ok chart) = IsChart s chart
 ChartTold s hours counted codes (Err TooShort) = Enough hours counted codes → ⊥
 ChartTold s hours counted codes (Err (NoTimetable count)) = (t : Timetable) → Lawful s t → ⊥
 
--- Two lists agree in their first entries.
-abbrev pub Agree : List ℤ → List ℤ → ℕ → Type 0
-Agree a b count = (k : ℕ) → k < count → slice_index_or a k (pos 0) ≡ slice_index_or b k (pos 0)
-
 -- Two charts that are given are compared in all entries.
 abbrev pub SameTold : Result (List ℤ) LoopRefusal → Result (List ℤ) LoopRefusal → Option Bool → Type 0
-SameTold (Ok a) (Ok b) (Some same) = Decides same (a ≡ b)
+SameTold (Ok a) (Ok b) (Some same) = IsTrue same ↔ (a ≡ b)
 SameTold (Ok a) (Ok b) None = ⊥
 SameTold (Ok a) (Err refusal) answer = answer ≡ None
 SameTold (Err refusal) second answer = answer ≡ None

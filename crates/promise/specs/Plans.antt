@@ -1,5 +1,5 @@
 -- What is told of a plan. Assumes nothing.
-use Rattle.std.specs.Prelude.{◌≡◌, ℕ, ◌+◌, ◌*◌, ◌<◌, ◌≤◌, cond, not, List, pos, Some, None, Ok, Err, Result, ◌==◌}
+use Rattle.std.specs.Prelude.{◌≡◌, ℕ, ◌+◌, ◌*◌, ◌<◌, ◌≤◌, List, pos, Some, None, Ok, Err, Option, Result, ◌==◌, if◌then◌else◌}
 use Rattle.brews.specs.Brews.{Vessel}
 use Rattle.choose.specs.Choosing.{HourRule}
 use Rattle.kinds.specs.declared.alone.Hours.{Hours}
@@ -20,7 +20,7 @@ hour_of hours n = numbered 65535 hours n
 
 -- A plan's start hours as a timetable.
 abbrev pub timetable_of : List ℕ → Timetable
-timetable_of hours n = cond (not (hour_of hours n == 65535)) (Some (pos (hour_of hours n))) None
+timetable_of hours n = if hour_of hours n == 65535 then None else Some (pos (hour_of hours n))
 
 -- Step n of a brew holds a vessel in an hour. Brew k, counted from 0, holds the step's vessel from start + k × period for
 -- the step's duration; the vessel is of the step's kind and has the number that the plan gives to the step.
@@ -40,7 +40,7 @@ NeverTwice s plan =
 -- outcome that the rules leave; the start hours are a lawful timetable, and no vessel is held twice.
 pub record PlanGiven (s : RuleSheet) (rule : HourRule) (stock : List ℕ) (plan : Plan) : Type 0 where
   pub counts : CountsFit stock
-  pub placed : List Placed
+  pub placed : List (Option Placed)
   pub settled : Settled s rule stock placed (all plan.vessels)
   pub hours : plan.starts ≡ start_hours placed
   pub lawful : Lawful s (timetable_of plan.starts)
@@ -49,7 +49,7 @@ pub record PlanGiven (s : RuleSheet) (rule : HourRule) (stock : List ℕ) (plan 
 -- The first step that finds no vessel, where the rules leave no other outcome.
 pub record StepLacks (s : RuleSheet) (rule : HourRule) (stock : List ℕ) (step : ℕ) : Type 0 where
   pub counts : CountsFit stock
-  pub placed : List Placed
+  pub placed : List (Option Placed)
   pub settled : Settled s rule stock placed (missing step)
 
 -- A plan is given or refused as the rules say: by 30 for want of room, by 12 for a count above 16, by 14 where there is no

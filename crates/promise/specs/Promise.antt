@@ -1,5 +1,5 @@
 -- The whole promise. Assumes nothing.
-use Rattle.std.specs.Prelude.{◌≡◌, ℕ, Bool, List, ℤ, Some, None, Ok, Err, vec_items, Decides, Option, Result}
+use Rattle.std.specs.Prelude.{◌≡◌, ℕ, ◌↔◌, Bool, List, ℤ, Some, None, Ok, Err, vec_items, IsTrue, Option, Result}
 use Rattle.alike.specs.Theorems.{Alike}
 use Rattle.book.specs.Commands.{Instruction}
 use Rattle.changes.specs.Changes.{asked}
@@ -27,7 +27,7 @@ pub record Fourteen : Type 0 where
 
 -- Two charts are compared in all entries; and they are equal exactly when the same timetables are lawful for both sheets.
 pub record AlikeTold (s u : RuleSheet) (a b : List ℤ) (same : Bool) : Type 0 where
-  pub equal : Decides same (a ≡ b)
+  pub equal : IsTrue same ↔ (a ≡ b)
   pub alike : a ≡ b → Alike s u
   pub unlike : Alike s u → a ≡ b
 

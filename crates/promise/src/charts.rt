@@ -1,5 +1,4 @@
-ghost use Rattle.std.specs.Prelude.{◌≡◌, Decides};
-ghost use Rattle.promise.specs.Charts.{ChartTold, Agree, SameTold};
+ghost use Rattle.promise.specs.Charts.{ChartTold, SameTold};
 
 use kinds::{Counted, Hours};
 use sheet::Source;

@@ -26,7 +26,7 @@ pub(crate) fn plan_of<S: Source, C: Chooser>(
 {
     let mut starts = [0; 31];
     let mut vessels = [0; 31];
-    match plan(
+    plan(
         source,
         stock,
         chooser,
@@ -35,8 +35,6 @@ pub(crate) fn plan_of<S: Source, C: Chooser>(
         codes,
         &mut starts,
         &mut vessels,
-    ) {
-        Ok(()) => Ok(Plan { starts, vessels }),
-        Err(refusal) => Err(refusal),
-    }
+    )?;
+    Ok(Plan { starts, vessels })
 }

@@ -1,8 +1,11 @@
+use Rattle.std.proofs.Common.{arith}
 use Rattle.plan.proofs.Crowding.{covers_value, covers_when}
 use Rattle.plan.proofs.crowd.covers_class.Goals as goal
 
 pub returns : goal.returns
-returns c = record {
-  value = covers_value c.args.period c.args.class c.requires c.args.step c.class_of.result c.class_of.ensures.value c.hours_until.result c.hours_until.ensures.below c.hours_until.ensures.comes;
-  covered = covers_when c.args.period c.args.class c.requires c.args.step c.class_of.result c.class_of.ensures.value c.hours_until.result c.hours_until.ensures.below c.hours_until.ensures.comes;
-}
+returns c =
+    let until = c.hours_until.ensures in
+    record {
+      value = covers_value c.args.period c.args.step.start c.args.step.duration c.args.class c.hours_until.result c.requires (until.comes (omega arith)) until.fewest;
+      covered = covers_when c.args.period c.args.step.start c.args.step.duration c.args.class c.hours_until.result c.requires (until.comes (omega arith)) until.fewest;
+    }

@@ -1,4 +1,4 @@
-use Rattle.std.proofs.Common.{rules}
+use Rattle.std.proofs.Common.{None, rules}
 use Rattle.plan.proofs.Settling.{hours_are}
 use Rattle.plan.proofs.writing.hours_of.Goals as goal
 
@@ -6,4 +6,4 @@ pub returns : goal.returns
 returns c =
     let maps = c.map.ensures.items in
     hours_are c.args.placed.now c.map.result c.told-placed maps.long
-    (λ i low. let called = maps.at i (record { start = 0; duration = 0; kind = 0 }) 0 low in search rules)
+    (λ i low. let called = maps.at i None 0 low in search rules)

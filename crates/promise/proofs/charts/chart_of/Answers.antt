@@ -3,6 +3,6 @@ use Rattle.sheet.specs.Waits.{IsChart}
 use Rattle.std.proofs.lemmas.List.{take_all}
 use Rattle.promise.proofs.charts.chart_of.Goals as goal
 
-pub returns-in-Ok : goal.returns-in-Ok
-returns-in-Ok g c =
-    subst (IsChart (g.S.Source.sheet c.args.source.now).told) (take_all 1024 c.wait_chart.new.chart (omega arith)) c.in-Ok.ensures.written.chart
+pub returns : goal.returns
+returns g c =
+    subst (IsChart (g.S.Source.sheet c.args.source.now).told) (take_all 1024 c.wait_chart.new.chart (omega (arith, c.wait_chart.auto.chart))) c.in_ok-wait_chart.ensures.written.chart
