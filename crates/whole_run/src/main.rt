@@ -37,11 +37,10 @@ fn print_comparison(rt: &HostRuntime, same: Option<bool>) -> io::Result<()> {
 fn print_plan(rt: &HostRuntime, kept: &Kept) -> io::Result<()> {
     match kept.plan {
         Ok(plan) => {
-            for k in 0..31usize {
-                let start = plan.starts[k];
-                let vessel = plan.vessels[k];
+            for (step, (start, vessel)) in (1..=31u8).zip(plan.starts.iter().zip(&plan.vessels)) {
+                let start = *start;
+                let vessel = *vessel;
                 if start != 65_535 {
-                    let step = k + 1;
                     println!(rt; "step {step} starts at {start} in vessel {vessel}")?;
                 }
             }
