@@ -19,6 +19,7 @@ pub(crate) fn chart_of<S: Source>(
 }
 
 // Whether two charts that were given are equal; nothing, if one was not given.
+#[tactic(auto, using(crate::proofs::Comparing::same_told))]
 pub(crate) fn compare(
     first: &Result<[i16; 1024], LoopRefusal>,
     second: &Result<[i16; 1024], LoopRefusal>,
