@@ -1,12 +1,13 @@
 -- A full sheet keeps every limit exactly if each of its tables does. Assumes nothing.
 use Rattle.std.proofs.Common.{◌≡◌, ℕ, zero, suc, ◌≤◌, List, length, get_or, None, sym, ◌∙◌, subst, ⊎_elim, arith}
+use Rattle.std.specs.List.{All}
 use Rattle.std.specs.Option.{option_map}
 use Rattle.sheet.specs.declared.forms.Rule.TheVariants.{Free}
 use Rattle.sheet.specs.declared.forms.Sheet.{Sheet}
 use Rattle.sheet.specs.Sheets.{numbered, without_name}
 use Rattle.sheet.specs.Limits.{From, StepFits, FullSound}
 use Rattle.sheet.proofs.Numbered.{told_step}
-use Rattle.std.proofs.lemmas.List.{get_or_past, length-map}
+use Rattle.std.proofs.lemmas.List.{get_or_past, get_or_default, length-map}
 use Rattle.std.proofs.lemmas.Bool.{cases_lt}
 use Rattle.checked.specs.Kept.{StepKept, RuleKept, CountKept, EachOf}
 
@@ -48,5 +49,12 @@ module _ (sheet : Sheet) where
   pub rules_kept : FullSound sheet → EachOf 96 Free (RuleKept sheet) sheet.rules
   rules_kept ok k h = ok.rules.rules (suc k)
 
-  pub counts_kept : FullSound sheet → EachOf 8 0 CountKept sheet.stock
-  counts_kept ok k h = ok.counts k
+  -- the counts of its stock, as a test of all tells them
+  pub counts_told : length sheet.stock ≡ 8 → All (λ count. count ≤ 16) sheet.stock → EachOf 8 0 CountKept sheet.stock
+  counts_told long all k h = all k 0 (omega arith)
+
+  pub counts_kept : FullSound sheet → All (λ count. count ≤ 16) sheet.stock
+  counts_kept ok k d h =
+      let same : get_or sheet.stock k d ≡ get_or sheet.stock k 0 = get_or_default sheet.stock k d 0 h in
+      let low = ok.counts k in
+      omega arith

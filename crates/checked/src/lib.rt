@@ -5,4 +5,4 @@ mod checked;
 mod limits;
 
 pub use checked::CheckedSheet;
-pub use limits::is_sound;
+pub use limits::{counts_fit, is_sound};

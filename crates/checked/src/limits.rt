@@ -1,16 +1,17 @@
 // Whether a full sheet keeps every limit.
-ghost use Rattle.std.specs.Prelude.{◌≡◌, ℕ, ◌<◌, ◌↔◌, length, None, IsTrue, slice_index};
+ghost use Rattle.std.specs.Prelude.{◌≡◌, ℕ, ◌<◌, ◌≤◌, ◌↔◌, length, None, IsTrue, All, slice_index};
 ghost use Rattle.sheet.specs.declared.forms.Rule.TheVariants.{Free};
 ghost use Rattle.sheet.specs.Limits.{From, FullSound};
 ghost use Rattle.checked.specs.Kept.{StepKept, RuleKept, CountKept, EachOf, TellsWhether};
 
 use sheet::{Rule, Sheet, Step};
 
-fn name_fits(name: &[u8; 8]) -> bool
+// The eight bytes of a record's name are printable.
+fn has_fitting_name(name: &[u8; 8]) -> bool
     ensures fits { IsTrue result ↔ ((k : ℕ) → k < 8 → From 0x20 0x7E (slice_index name.now k)) }
     ensures long { length name.now ≡ 8 }
 {
-    name.iter().all(|byte| matches!(byte, 0x20..=0x7E))
+    changes::name_fits(name)
 }
 
 fn step_fits(step: Option<Step>) -> bool
@@ -18,7 +19,10 @@ fn step_fits(step: Option<Step>) -> bool
 {
     match step {
         Some(step) => {
-            step.duration >= 1 && step.duration <= 999 && step.kind <= 7 && name_fits(&step.name)
+            step.duration >= 1
+                && step.duration <= 999
+                && step.kind <= 7
+                && has_fitting_name(&step.name)
         }
         None => true,
     }
@@ -51,8 +55,9 @@ fn rules_fit(sheet: &Sheet, table: &[Rule; 96]) -> bool
     table.iter().all(|rule| rule_fits(sheet, *rule))
 }
 
-fn counts_fit(stock: &[u8; 8]) -> bool
-    ensures fits { IsTrue result ↔ EachOf 8 0 CountKept stock.now }
+// Whether a stock has at most 16 vessels of each kind.
+pub fn counts_fit(stock: &[u8; 8]) -> bool
+    ensures fits { IsTrue result ↔ All (λ count. count ≤ 16) stock.now }
     ensures long { length stock.now ≡ 8 }
 {
     stock.iter().all(|count| *count <= 16)

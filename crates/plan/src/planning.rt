@@ -5,6 +5,7 @@ ghost use Rattle.sheet.specs.Waits.{IsChart};
 
 use super::fill::fill;
 use super::writing::write_plan;
+use checked::counts_fit;
 use choose::Chooser;
 use kinds::{Counted, Hours};
 use sheet::Source;
@@ -35,13 +36,6 @@ impl PlanRefusal {
             PlanRefusal::NoVessel { .. } => 40,
         }
     }
-}
-
-// Whether all counts of a stock are within their limit.
-fn counts_fit(stock: &[u8; 8]) -> bool
-    ensures { IsTrue result ↔ All (λ count. count ≤ 16) stock.now }
-{
-    stock.iter().all(|&count| count <= 16)
 }
 
 // What a plan makes of a refusal of the wait chart.

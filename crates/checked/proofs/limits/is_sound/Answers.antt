@@ -1,6 +1,6 @@
 use Rattle.std.proofs.Common.{sym, ◌∙◌, arith}
 use Rattle.std.proofs.lemmas.Bool.{false≢true}
-use Rattle.checked.proofs.Fits.{full_sound, steps_kept, rules_kept, counts_kept}
+use Rattle.checked.proofs.Fits.{full_sound, steps_kept, rules_kept, counts_told, counts_kept}
 use Rattle.checked.proofs.limits.is_sound.Goals as goal
 
 pub returns-then-not-steps_fit : goal.returns-then-not-steps_fit
@@ -21,6 +21,6 @@ returns c = (
       ∣ full_sound c.args.sheet.now (omega arith, omega arith) (omega arith, omega arith)
       c.steps_fit.ensures.long (c.steps_fit.ensures.fits.0 c.if-not-steps_fit.false)
       c.rules_fit.ensures.long (c.rules_fit.ensures.fits.0 c.if-not-rules_fit.false)
-      c.counts_fit.ensures.long (c.counts_fit.ensures.fits.0 e) ∣₁,
+      c.counts_fit.ensures.long (counts_told c.args.sheet.now c.counts_fit.ensures.long (c.counts_fit.ensures.fits.0 e)) ∣₁,
   λ ok. c.counts_fit.ensures.fits.1 (counts_kept c.args.sheet.now ok),
 )
