@@ -84,8 +84,9 @@ pub fn find_loops(trial: &Trial) -> Loops {
 }
 
 // The way along the ties with these codes, if it is one.
-fn way_by_codes(trial: &Trial, base: u8, codes: &[u16]) -> Option<Way> {
-    let mut way = way_from(base);
+fn way_by_codes(trial: &Trial, codes: &[u16]) -> Option<Way> {
+    let first = tie_with_code(trial, *codes.first()?)?;
+    let mut way = way_from(first.from);
     for code in codes {
         let found = tie_with_code(trial, *code)?;
         way = along(&way, found)?;
@@ -95,16 +96,10 @@ fn way_by_codes(trial: &Trial, base: u8, codes: &[u16]) -> Option<Way> {
 
 // Whether the first codes are those of a loop that weighs at least 1 at a period.
 pub fn is_heavy_loop(trial: &Trial, codes: &[u16; 32], count: usize, period: u16) -> bool {
-    if count == 0 || count > 32 {
-        return false;
-    }
-    let Some(first) = tie_with_code(trial, codes[0]) else {
-        return false;
-    };
-    match way_by_codes(trial, first.from, &codes[0..count]) {
-        Some(way) => is_closed(&way) && weight(&way, period) >= 1,
-        None => false,
-    }
+    codes
+        .get(..count)
+        .and_then(|codes| way_by_codes(trial, codes))
+        .is_some_and(|way| is_closed(&way) && weight(&way, period) >= 1)
 }
 
 // Whether the library tells the bound that the loops ask for, or else a loop that rules out every period.

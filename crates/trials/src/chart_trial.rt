@@ -19,12 +19,10 @@ fn entry_due(trial: &Trial, found: &Found, k: usize) -> i16 {
 }
 
 fn entries_agree(trial: &Trial, found: &Found, chart: &[i16; 1024]) -> bool {
-    for k in 0..1024usize {
-        if chart[k] != entry_due(trial, found, k) {
-            return false;
-        }
-    }
-    true
+    chart
+        .iter()
+        .enumerate()
+        .all(|(k, &entry)| entry == entry_due(trial, found, k))
 }
 
 // Whether the library tells the least delays, or else a loop that leaves no lawful timetable.

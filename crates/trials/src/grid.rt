@@ -8,7 +8,8 @@ use sheet::Rule;
 
 // How many steps a trial has, as a number from 1 to 3.
 fn step_count(steps: u8) -> u16
-    ensures { (1 ≤ result) × (result ≤ 3) }
+    ensures some { 1 ≤ result }
+    ensures few { result ≤ 3 }
 {
     match steps {
         1 => 1,
@@ -19,7 +20,8 @@ fn step_count(steps: u8) -> u16
 
 // The number of pairs of steps; a step makes a pair with itself too.
 fn pair_count(steps: u8) -> u16
-    ensures { (1 ≤ result) × (result ≤ 9) }
+    ensures some { 1 ≤ result }
+    ensures few { result ≤ 9 }
 {
     match steps {
         1 => 1,
@@ -36,13 +38,10 @@ fn rule_count(steps: u8) -> u16 {
 
 // After for a pair of steps: at once, an hour later and a brew later, or at once two brews later.
 fn after(u: u8, v: u8, form: u16) -> Rule {
-    let gap = if form == 1 { 1 } else { 0 };
-    let carry = if form == 0 {
-        0
-    } else if form == 1 {
-        1
-    } else {
-        2
+    let (gap, carry) = match form {
+        0 => (0, 0),
+        1 => (1, 1),
+        _ => (0, 2),
     };
     Rule::After { u, v, gap, carry }
 }

@@ -34,8 +34,8 @@ fn print_tally(rt: &HostRuntime, tally: &Tally) -> io::Result<()> {
         (tally.lacking, "plans without enough vessels"),
         (tally.differences, "differences"),
     ];
-    for line in counts {
-        print_count(rt, line.0, line.1)?;
+    for (count, of) in counts {
+        print_count(rt, count, of)?;
     }
     Ok(())
 }

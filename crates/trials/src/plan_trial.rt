@@ -1,7 +1,7 @@
 // The plans that the library tells, beside timetables filled by trying everything.
 use super::bound_trial::is_heavy_loop;
 use super::cellar::{first_without, numbered, vessels_apart};
-use super::partial::{Partial, Pick, filled, start_of, starts_of};
+use super::partial::{Partial, Span, calmest, filled, start_of, starts_of};
 use super::tally::{Tally, more};
 use super::timetable::is_lawful;
 use super::trial::{Trial, vessels_of_kind};
@@ -10,15 +10,17 @@ use choose::{Chooser, Earliest, Latest, LeastCrowded};
 use kinds::{Counted, Hours};
 use plan::{PlanRefusal, plan};
 
-// What is expected of a plan: the starts, the vessel numbers, and the first step without a vessel, or 0.
+// What is expected of a plan: the starts, the vessel numbers, and the first step without a vessel, if there is one.
 #[derive(Drop)]
 pub struct Due {
     pub partial: Partial,
-    pub numbers: [u8; 4],
-    pub missing: u8,
+    pub numbers: [Option<u8>; 4],
+    pub missing: Option<u8>,
 }
 
-fn due_by(trial: &Trial, pick: Pick) -> Due {
+fn due_by<F: Fn(&Trial, &Partial, u8, Span) -> i8>(trial: &Trial, pick: F) -> Due
+    requires { F.IsAlwaysCallable pick }
+{
     let partial = filled(trial, pick);
     let numbers = numbered(trial, &partial);
     let missing = first_without(trial, &numbers);
@@ -31,28 +33,23 @@ fn due_by(trial: &Trial, pick: Pick) -> Due {
 
 // The start hour that is written for a step.
 fn hour_due(partial: &Partial, step: u8) -> i32 {
-    match start_of(partial, step) {
-        Some(hour) => hour as i32,
-        None => 65535,
-    }
+    start_of(partial, step).map_or(65_535, |hour| hour as i32)
 }
 
-// Whether place i has what is due to step i + 1.
-fn place_agrees(due: &Due, i: u8, start: u16, vessel: u8) -> bool {
-    if i < 3 {
-        start as i32 == hour_due(&due.partial, i + 1) && vessel == due.numbers[i as usize % 3 + 1]
+// Whether a place, counted from 0, has what is due to its step: step 1 stands at place 0.
+fn place_agrees(due: &Due, place: usize, start: u16, vessel: u8) -> bool {
+    if place < 3 {
+        start as i32 == hour_due(&due.partial, place as u8 + 1)
+            && vessel == due.numbers[place + 1].unwrap_or(0)
     } else {
-        start == 65535 && vessel == 0
+        start == 65_535 && vessel == 0
     }
 }
 
 fn written_agrees(due: &Due, starts: &[u16; 31], vessels: &[u8; 31]) -> bool {
-    for i in 0..31u8 {
-        if !place_agrees(due, i, starts[i as usize], vessels[i as usize]) {
-            return false;
-        }
-    }
-    true
+    starts.iter().zip(vessels).enumerate().all(|(place, (&start, &vessel))| place_agrees(
+        due, place, start, vessel,
+    ))
 }
 
 // Whether the plan that is due, which was written, is lawful and holds no vessel twice.
@@ -109,7 +106,7 @@ fn ask<C: Chooser>(trial: &Trial, source: &CheckedSheet, chooser: &C) -> Asked {
 
 // Whether a plan was written that is due.
 fn is_due(trial: &Trial, due: &Due, asked: &Asked) -> bool {
-    due.missing == 0
+    due.missing.is_none()
         && written_agrees(due, &asked.starts, &asked.vessels)
         && is_sound_plan(trial, due)
 }
@@ -118,7 +115,7 @@ fn is_due(trial: &Trial, due: &Due, asked: &Asked) -> bool {
 fn plan_agrees(trial: &Trial, lawful: bool, due: &Due, asked: &Asked) -> bool {
     match asked.answer {
         Ok(()) => lawful && is_due(trial, due, asked),
-        Err(PlanRefusal::NoVessel { step }) => lawful && step == due.missing,
+        Err(PlanRefusal::NoVessel { step }) => lawful && due.missing == Some(step),
         Err(PlanRefusal::NoTimetable { count }) => {
             !lawful && is_heavy_loop(trial, &asked.codes, count, trial.period as u16)
         }
@@ -127,21 +124,25 @@ fn plan_agrees(trial: &Trial, lawful: bool, due: &Due, asked: &Asked) -> bool {
 }
 
 fn count_plan(lawful: bool, due: &Due, tally: &mut Tally) {
-    if lawful && due.missing == 0 {
-        tally.plans = more(tally.plans, 1);
-    } else if lawful {
-        tally.lacking = more(tally.lacking, 1);
+    if !lawful {
+        return;
+    }
+    match due.missing {
+        None => tally.plans = more(tally.plans, 1),
+        Some(_) => tally.lacking = more(tally.lacking, 1),
     }
 }
 
-fn try_chooser<C: Chooser>(
+fn try_chooser<C: Chooser, F: Fn(&Trial, &Partial, u8, Span) -> i8>(
     trial: &Trial,
     source: &CheckedSheet,
     chooser: &C,
-    pick: Pick,
+    pick: F,
     lawful: bool,
     tally: &mut Tally,
-) -> bool {
+) -> bool
+    requires { F.IsAlwaysCallable pick }
+{
     let due = due_by(trial, pick);
     count_plan(lawful, &due, tally);
     plan_agrees(trial, lawful, &due, &ask(trial, source, chooser))
@@ -149,8 +150,22 @@ fn try_chooser<C: Chooser>(
 
 // Whether the plans under all three choosers are those that are due.
 pub fn plans_agree(trial: &Trial, source: &CheckedSheet, lawful: bool, tally: &mut Tally) -> bool {
-    let first = try_chooser(trial, source, &Earliest, Pick::First, lawful, tally);
-    let last = try_chooser(trial, source, &Latest, Pick::Last, lawful, tally);
-    let calm = try_chooser(trial, source, &LeastCrowded, Pick::Calmest, lawful, tally);
+    let first = try_chooser(
+        trial,
+        source,
+        &Earliest,
+        |_, _, _, span| span.first,
+        lawful,
+        tally,
+    );
+    let last = try_chooser(
+        trial,
+        source,
+        &Latest,
+        |_, _, _, span| span.last,
+        lawful,
+        tally,
+    );
+    let calm = try_chooser(trial, source, &LeastCrowded, calmest, lawful, tally);
     first && last && calm
 }

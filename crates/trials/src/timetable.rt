@@ -1,6 +1,6 @@
 // All timetables of a trial, and the lawful ones among them.
 use super::tally::more;
-use super::trial::{Trial, duration, rule};
+use super::trial::{Trial, duration};
 use sheet::Rule;
 
 // The start at place n; 0 at place 0 and for a step that is not there.
@@ -36,15 +36,8 @@ fn fits(trial: &Trial, starts: &[i8; 4], step: u8) -> bool {
 }
 
 pub fn is_lawful(trial: &Trial, starts: &[i8; 4]) -> bool {
-    for n in 1..4u8 {
-        if n <= trial.steps && !fits(trial, starts, n) {
-            return false;
-        }
-        if !obeys(trial, starts, rule(trial, n as u16)) {
-            return false;
-        }
-    }
-    true
+    (1..=trial.steps).all(|step| fits(trial, starts, step))
+        && trial.rules.iter().all(|&rule| obeys(trial, starts, rule))
 }
 
 // How many timetables with starts from -1 to 5 there are.
@@ -88,11 +81,8 @@ fn delay(starts: &[i8; 4], i: usize, j: usize) -> i16 {
 
 // Takes a lawful timetable into account.
 fn note(least: &mut [i16; 16], starts: &[i8; 4]) {
-    for k in 0..16usize {
-        let told = delay(starts, k / 4, k % 4);
-        if told < least[k] {
-            least[k] = told;
-        }
+    for (k, hours) in least.iter_mut().enumerate() {
+        *hours = delay(starts, k / 4, k % 4).min(*hours);
     }
 }
 

@@ -10,6 +10,9 @@ use runs::{Call, Note};
 use sheet::{LeftOut, OtherPeriod, Source};
 use std::io;
 
+// The start hour that is written for an absent step.
+const ABSENT: u16 = 65_535;
+
 const OFFICE: &[u8] =
     b"\x09\x00\x3C\x01\x01\x00\x06\x00MASH    \x01\x02\x00\x14\x01FERMENT \x01\x03\x00\x04\x02CROP    \x04\x01\x01\x02\x00\x00\x00\x04\x02\x02\x03\x00\x00\x00\x04\x03\x03\x02\x00\x02\x02";
 
@@ -37,10 +40,9 @@ fn print_comparison(rt: &HostRuntime, same: Option<bool>) -> io::Result<()> {
 fn print_plan(rt: &HostRuntime, kept: &Kept) -> io::Result<()> {
     match kept.plan {
         Ok(plan) => {
-            for (step, (start, vessel)) in (1..=31u8).zip(plan.starts.iter().zip(&plan.vessels)) {
-                let start = *start;
-                let vessel = *vessel;
-                if start != 65_535 {
+            for (place, (&start, &vessel)) in plan.starts.iter().zip(&plan.vessels).enumerate() {
+                if start != ABSENT {
+                    let step = place + 1;
                     println!(rt; "step {step} starts at {start} in vessel {vessel}")?;
                 }
             }
