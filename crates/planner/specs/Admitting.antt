@@ -9,6 +9,7 @@ use Rattle.planner.specs.Refusals.{refusal_number}
 use Rattle.planner.specs.Rules.{Possible, Outcome}
 use Rattle.planner.specs.declared.planner.Planner.{Planner}
 use Rattle.planner.specs.declared.refusals.Refusal.{Refusal}
+use Rattle.planner.specs.declared.refusals.Refusal.TheVariants.{Faulty, NoTimetable, Unread, TooShort}
 
 -- the number of a refusal, if there is one
 abbrev pub number_in : Result (Unit {0}) Refusal → Option ℕ
@@ -25,7 +26,10 @@ pub record Admitted (sheet : Sheet) (i : Instruction) (before after : List Hours
   pub if_short : length before < 1024 → (number_in r ≡ Some 30) × (now_sheet ≡ sheet) × (after ≡ before)
   pub if_long : 1024 ≤ length before → Ruled sheet i before after now_sheet r
 
--- a planner with a sheet, if that has a lawful timetable
-abbrev pub PlannerIf : Sheet → List Hours → List Hours → Option Planner → Type 0
-PlannerIf sheet before after None = (Possible sheet → ⊥) × RestKept before after
-PlannerIf sheet before after (Some planner) = (sheet_of planner ≡ sheet) × Possible sheet × RestKept before after
+-- A planner with a sheet, if that has a lawful timetable, where the working chart has its room.
+abbrev pub PlannerPlainly : Sheet → List Hours → List Hours → Result Planner Refusal → Type 0
+PlannerPlainly sheet before after (Ok planner) = (sheet_of planner ≡ sheet) × Possible sheet × RestKept before after
+PlannerPlainly sheet before after (Err (Faulty fault)) = ⊥
+PlannerPlainly sheet before after (Err (NoTimetable count)) = (Possible sheet → ⊥) × RestKept before after
+PlannerPlainly sheet before after (Err (Unread fault)) = ⊥
+PlannerPlainly sheet before after (Err TooShort) = ⊥

@@ -1,7 +1,7 @@
 // Entering commands where only the numbers of refusals are wanted.
 ghost use Rattle.std.specs.Prelude.{◌≤◌, length};
 ghost use Rattle.book.specs.Commands.{said};
-ghost use Rattle.planner.specs.Admitting.{PlannerIf, Admitted};
+ghost use Rattle.planner.specs.Admitting.{PlannerPlainly, Admitted};
 ghost use Rattle.planner.specs.Entering.{sheet_of};
 
 use super::super::refusals::Refusal;
@@ -12,16 +12,14 @@ use checked::CheckedSheet;
 use kinds::Hours;
 use waits::plain_chart;
 
-// A planner for a sheet, if that has a lawful timetable.
-fn planner_if_possible(checked: CheckedSheet, hours: &mut [Hours]) -> Option<Planner>
+// A planner for a sheet, if that has a lawful timetable; if not, no loop is looked for.
+fn planner_plainly(checked: CheckedSheet, hours: &mut [Hours]) -> Result<Planner, Refusal>
     requires { 1024 ≤ length hours.old }
-    ensures { PlannerIf checked.sheet hours.old hours.new result }
+    ensures { PlannerPlainly checked.sheet hours.old hours.new result }
 {
     let mut chart = [0; 1024];
-    match plain_chart(&checked, hours, &mut chart) {
-        Ok(()) => Some(Planner { checked, chart }),
-        Err(_) => None,
-    }
+    plain_chart(&checked, hours, &mut chart)?;
+    Ok(Planner { checked, chart })
 }
 
 impl Planner {
@@ -34,10 +32,7 @@ impl Planner {
             return Err(Refusal::TooShort);
         }
         let asked = asked_for(&self.checked, command)?;
-        let Some(planner) = planner_if_possible(asked, hours) else {
-            return Err(Refusal::NoTimetable { count: 0 });
-        };
-        *self = planner;
+        *self = planner_plainly(asked, hours)?;
         Ok(())
     }
 }
