@@ -1,5 +1,5 @@
 -- One pass over a card finds what its sheet has. Assumes nothing.
-use Rattle.std.proofs.Common.{◌≡◌, ℕ, ◌<◌, ◌≤◌, true, false, cond, eqb, List, length, is_err, Some, None, Ok, Err, Option, Result, sym, refl, ap, ◌∙◌, subst, ⊎_elim, arith, eq-eqb, ne_eqb}
+use Rattle.std.proofs.Common.{◌≡◌, ℕ, ◌<◌, ◌≤◌, true, false, cond, eqb, List, length, is_err, Some, None, Ok, Err, Result, sym, refl, ap, ◌∙◌, subst, ⊎_elim, arith, eq-eqb, ne_eqb}
 use Rattle.std.proofs.lemmas.List.{length-map}
 use Rattle.std.proofs.lemmas.Bool.{and_parts, cases_eq, cond-true, cond-false, true≢false, false≢true}
 use Rattle.std.specs.Option.{option_map}
@@ -12,20 +12,19 @@ use Rattle.book.specs.declared.reading.Reader.{Reader}
 use Rattle.changes.proofs.Kept.{from_test, numbered_same}
 use Rattle.changes.specs.Changes.{asked}
 use Rattle.changes.specs.Tests.{has, puts_in_limits}
-use Rattle.sheet.proofs.Numbered.{numbered-replaced_same, numbered-replaced_other, told_step}
+use Rattle.sheet.proofs.Numbered.{numbered-replaced_same, numbered-replaced_other}
 use Rattle.sheet.specs.Edits.{empty_sheet, replaced}
 use Rattle.sheet.specs.Limits.{FullSound}
-use Rattle.sheet.specs.Sheets.{numbered, step_at, rule_sheet, without_name}
+use Rattle.sheet.specs.Sheets.{numbered, without_name}
 use Rattle.sheet.specs.declared.forms.Rule.{Rule}
 use Rattle.sheet.specs.declared.forms.Rule.TheVariants.{Free, After, Within, At}
 use Rattle.sheet.specs.declared.forms.Sheet.{Sheet}
 use Rattle.card.proofs.Progress.{Reached, at_start, go_on, stopped, unread, at_end}
 use Rattle.card.specs.Cards.{Verdict, stands_for, faulty, ended, ruling, judged, outcome, sheet_of}
-use Rattle.card.specs.Finds.{Answers, answers_from, none_found, step_found, nameless, with_found_rule, noted_by}
+use Rattle.card.specs.Finds.{Answers, answers_from, none_found, with_found_rule, noted_by}
 use Rattle.card.specs.Marks.{placed_in}
 use Rattle.card.specs.Told.{ruling_passed}
 use Rattle.card.specs.declared.faults.CardFault.{CardFault}
-use Rattle.card.specs.declared.lookups.FoundStep.{FoundStep}
 use Rattle.card.specs.declared.order.Stage.{Stage}
 use Rattle.card.specs.declared.order.Stage.TheVariants.{Period, Span, Steps, Rules}
 
@@ -121,11 +120,3 @@ sound_stands (faulty fault) e = absurd (true≢false e)
 pub faulty_empty : (v : Verdict) → is_err (outcome v) ≡ true → empty_sheet ≡ sheet_of v
 faulty_empty (stands_for sheet) e = absurd (false≢true e)
 faulty_empty (faulty other) e = refl
-
--- what a source tells of a step that was found
-pub told_found : (sheet : Sheet) (n : ℕ) (o : Option FoundStep) → option_map step_found o ≡ numbered None sheet.steps n → option_map nameless o ≡ step_at (rule_sheet sheet) n
-told_found sheet n o found = without o ∙ ap (option_map without_name) found ∙ sym (told_step sheet n)
-  where
-    without : (o : Option FoundStep) → option_map nameless o ≡ option_map without_name (option_map step_found o)
-    without None = refl
-    without (Some found) = refl

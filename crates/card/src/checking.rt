@@ -43,7 +43,8 @@ fn judge_end(stage: Stage, end: usize) -> Result<(), CardFault>
 
 // Judges all that a reader tells of a card that ends at `end`.
 fn judge_all(reader: &mut Reader, end: usize) -> Result<(), CardFault>
-    ensures { (items : List Item) → Walk (book_of reader.old) (place_of reader.old) items → result ≡ outcome (judged end due empty_sheet items) }
+    ensures { (items : List Item) → Walk (book_of reader.old) (place_of reader.old) items
+        → result ≡ outcome (judged end due empty_sheet items) }
 {
     let mut stage = Stage::Period;
     let mut marks = [false; 32];

@@ -29,8 +29,8 @@ fn put(command: &Command, buffer: &mut [u8], at: usize) -> usize
 // A step that the sheet has not takes no bytes.
 fn put_step(sheet: &Sheet, number: u8, buffer: &mut [u8], at: usize) -> usize
     requires { at + 13 ≤ length buffer.old }
-    ensures put { Put buffer.old at (spelled_all (step_command number (numbered None sheet.now.steps number)))
-        result buffer.new }
+    ensures put { let commands = step_command number (numbered None sheet.now.steps number) in
+        Put buffer.old at (spelled_all commands) result buffer.new }
     ensures most { result ≤ at + 13 }
     ensures len { length buffer.new ≡ length buffer.old }
 {
@@ -43,8 +43,8 @@ fn put_step(sheet: &Sheet, number: u8, buffer: &mut [u8], at: usize) -> usize
 // A free number takes no bytes.
 fn put_rule(sheet: &Sheet, number: u8, buffer: &mut [u8], at: usize) -> usize
     requires { at + 7 ≤ length buffer.old }
-    ensures put { Put buffer.old at (spelled_all (rule_command number (numbered Free sheet.now.rules number)))
-        result buffer.new }
+    ensures put { let commands = rule_command number (numbered Free sheet.now.rules number) in
+        Put buffer.old at (spelled_all commands) result buffer.new }
     ensures most { result ≤ at + 7 }
     ensures len { length buffer.new ≡ length buffer.old }
 {
@@ -57,7 +57,8 @@ fn put_rule(sheet: &Sheet, number: u8, buffer: &mut [u8], at: usize) -> usize
 // The steps that the sheet has, by rising number.
 fn put_steps(sheet: &Sheet, buffer: &mut [u8], at: usize) -> usize
     requires { at + 403 ≤ length buffer.old }
-    ensures put { Put buffer.old at (spelled_all (steps_up_to sheet.now.steps 31)) result buffer.new }
+    ensures put { let commands = steps_up_to sheet.now.steps 31 in
+        Put buffer.old at (spelled_all commands) result buffer.new }
     ensures most { result ≤ at + 403 }
     ensures len { length buffer.new ≡ length buffer.old }
 {
@@ -71,7 +72,8 @@ fn put_steps(sheet: &Sheet, buffer: &mut [u8], at: usize) -> usize
 // The rules that the sheet has, by rising number.
 fn put_rules(sheet: &Sheet, buffer: &mut [u8], at: usize) -> usize
     requires { at + 672 ≤ length buffer.old }
-    ensures put { Put buffer.old at (spelled_all (rules_up_to sheet.now.rules 96)) result buffer.new }
+    ensures put { let commands = rules_up_to sheet.now.rules 96 in
+        Put buffer.old at (spelled_all commands) result buffer.new }
     ensures most { result ≤ at + 672 }
     ensures len { length buffer.new ≡ length buffer.old }
 {

@@ -27,13 +27,12 @@ fn print_command(rt: &HostRuntime, command: &Command) -> io::Result<()> {
 
 // The least code of a loop; the buffer holds zeros behind its codes, and no link has the code 0.
 fn least_code(codes: &[u16; 32]) -> u16 {
-    let mut least = u16::MAX;
-    for code in codes {
-        if *code != 0 && *code < least {
-            least = *code;
-        }
-    }
-    least
+    codes
+        .iter()
+        .copied()
+        .filter(|code| *code != 0)
+        .min()
+        .unwrap_or(0)
 }
 
 // The codes of a loop in order. Any of its links may come first, so that it is told from its least code on.

@@ -14,10 +14,7 @@ use Rattle.changes.specs.Changes.{asked}
 use Rattle.changes.specs.Faults.{first_fault}
 use Rattle.checked.specs.declared.checked.CheckedSheet.{CheckedSheet}
 use Rattle.waits.specs.Charts.{ChartWritten, Charted, Buffers as ChartBuffers}
-use Rattle.loops.specs.declared.refusals.LoopRefusal.{LoopRefusal}
-use Rattle.loops.specs.declared.refusals.LoopRefusal.TheVariants.{TooShort, NoTimetable}
 use Rattle.planner.specs.Asking.{AskedFor, PlannerFor}
-use Rattle.planner.specs.Refusals.{without_chart}
 use Rattle.planner.specs.Entering.{Buffers, Room, Entered, sheet_of}
 use Rattle.planner.specs.declared.planner.Planner.{Planner}
 use Rattle.planner.specs.declared.refusals.Refusal.{Refusal}
@@ -38,15 +35,6 @@ module _ (sheet : Sheet) (before chart : List ℤ) (size : length chart ≡ 1024
 -- the buffers of a call without a caller's chart
 abbrev pub less_chart : ChartBuffers → Buffers
 less_chart b = record { hours = b.hours; counted = b.counted; codes = b.codes }
-
--- why there is no planner: the buffers had their room
-pub by_refusal : (sheet : Sheet) (before after : ChartBuffers) (refusal : LoopRefusal) (told : Refusal) → told ≡ without_chart refusal → Charted (rule_sheet sheet) before after (Err refusal) → Room (less_chart before) → length after.chart ≡ 1024 → PlannerFor sheet (less_chart before) (less_chart after) (Err told)
-by_refusal sheet before after TooShort told is short room size =
-    let same = ap (λ (b : ChartBuffers). length b.chart) short.1 in
-    absurd (short.0 (record { hours = room.hours; counted = room.counted; chart = omega (arith, same, size); codes = room.codes }))
-by_refusal sheet before after (NoTimetable count) told is refused room size =
-    subst (λ r. PlannerFor sheet (less_chart before) (less_chart after) (Err r)) (sym is)
-    (record { none = refused.none; charts = record { hours = refused.hours; counted = refused.counted }; loop = refused.loop })
 
 -- a planner with the chart that was given
 pub by_chart : (sheet : Sheet) (before after : ChartBuffers) (planner : Planner) → sheet_of planner ≡ sheet → Charted (rule_sheet sheet) before after (Ok tt) → length after.chart ≡ 1024 → PlannerFor sheet (less_chart before) (less_chart after) (Ok planner)

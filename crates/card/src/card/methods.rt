@@ -28,7 +28,8 @@ impl<'a> Card<'a> {
 
     // What the card tells of a step and a rule; a faulty one tells an empty planner's sheet.
     fn look_up(&self, step: u8, rule: u8) -> Found<'a>
-        ensures { answers_of result ≡ answers_from (sheet_of (verdict (bytes_of self.now))) step rule }
+        ensures { let sheet = sheet_of (verdict (bytes_of self.now)) in
+            answers_of result ≡ answers_from sheet step rule }
     {
         if self.condition().is_err() {
             return NOTHING_FOUND;
