@@ -88,6 +88,7 @@ fn take_call(
 }
 
 // Carries out all calls, one by one; a refusal does not end the run.
+#[tactic(auto, using(crate::proofs::Courses::turned))]
 fn take_calls(
     planner: &mut Planner,
     calls: &[Call],
