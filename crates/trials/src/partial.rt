@@ -110,7 +110,7 @@ pub fn calmest(trial: &Trial, partial: &Partial, step: u8, span: Span) -> i8 {
 }
 
 // The starts that come of a way to pick an hour from a step's window, beside the steps placed.
-pub fn filled<F: Fn(&Trial, &Partial, u8, Span) -> i8>(trial: &Trial, pick: F) -> Partial
+pub(crate) fn filled<F: Fn(&Trial, &Partial, u8, Span) -> i8>(trial: &Trial, pick: F) -> Partial
     requires { F.IsAlwaysCallable pick }
 {
     let mut partial = Partial { placed: [None; 4] };
