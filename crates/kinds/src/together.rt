@@ -10,7 +10,7 @@ ghost use Rattle.kinds.specs.Together.{
 
 use chart::Entry;
 use sheet::Link;
-use std::cmp::Reverse;
+use std::cmp::Ordering;
 
 // More hours rank higher, and at equal hours fewer links do.
 #[derive(Clone, Copy, Debug, PartialEq, Eq)]
@@ -51,6 +51,10 @@ impl Entry for Counted {
     }
 
     fn beats(self, other: Counted) -> bool {
-        (self.hours, Reverse(self.links)) > (other.hours, Reverse(other.links))
+        match self.hours.cmp(&other.hours) {
+            Ordering::Less => false,
+            Ordering::Equal => self.links < other.links,
+            Ordering::Greater => true,
+        }
     }
 }

@@ -46,12 +46,12 @@ by_chart sheet before after planner is given size = record {
 }
 
 module _ (sheet : Sheet) (i : Instruction) (checked : CheckedSheet) (asks : AskedFor sheet i (Ok checked)) (before after : Buffers) (room : Room before) where
-  pub accepted : (planner : Planner) → PlannerFor checked.sheet before after (Ok planner) → Entered sheet i before (sheet_of planner) after (Ok tt)
-  accepted planner planned = record {
+  pub accepted : (planner standing : Planner) → standing ≡ planner → PlannerFor checked.sheet before after (Ok planner) → Entered sheet i before (sheet_of standing) after (Ok tt)
+  accepted planner standing is planned = record {
     room = room;
     no_fault = asks.0;
     lawful = subst (λ x. ∥ ((t : Timetable) × Lawful (rule_sheet x) t) ∥₁) asks.1 planned.lawful;
-    becomes = planned.told ∙ asks.1;
+    becomes = ap sheet_of is ∙ planned.told ∙ asks.1;
     charts = planned.charts;
     codes = planned.codes;
   }

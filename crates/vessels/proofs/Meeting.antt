@@ -1,5 +1,5 @@
 -- When the classes of two steps meet. Assumes nothing.
-use Rattle.std.proofs.Common.{◌≡◌, ℕ, ◌+◌, ◌-◌, ◌*◌, ◌/◌, ◌%◌, ◌<◌, ◌≤◌, ◌⊎◌, sym, ap, ◌∙◌, ⊎_elim, add-zero, mod-lt, mod-eq_of_lt, add-mul, add_comm, div-add-mod', arith}
+use Rattle.std.proofs.Common.{◌≡◌, ℕ, ◌+◌, ◌-◌, ◌*◌, ◌/◌, ◌%◌, ◌<◌, ◌≤◌, ◌⊎◌, sym, ap, subst, ◌∙◌, ⊎_elim, add-zero, mod-lt, mod-eq_of_lt, add-mul, add_comm, div-add-mod', arith}
 use native.Mathlib.Nat.{add-mod-mod, mod-add-mod, add-mul-mod_self_right, add-mod_right, mod-le}
 use Rattle.std.proofs.lemmas.Bool.{cases_lt}
 use Rattle.vessels.specs.Sharing.{Shares}
@@ -17,6 +17,14 @@ mod_cancel period more x y some same = sym (back x) ∙ ap (λ r. (rest + r) % p
 
     back : (z : ℕ) → (rest + (more + z) % period) % period ≡ z % period
     back z = add-mod-mod rest (more + z) period ∙ ap (λ n. n % period) (whole z) ∙ add-mul-mod_self_right z (more / period + 1) period
+
+-- hours between two classes are hours between the hours' remainders
+pub between_classes : (period from to x y hours : ℕ) → x ≡ from % period → y ≡ to % period
+    → ((x + hours ≡ y) ⊎ (x + hours ≡ y + period))
+    → ((from % period + hours ≡ to % period) ⊎ (from % period + hours ≡ to % period + period))
+between_classes period from to x y hours is_x is_y comes =
+    subst (λ a. (a + hours ≡ to % period) ⊎ (a + hours ≡ to % period + period)) is_x
+    (subst (λ b. (x + hours ≡ b) ⊎ (x + hours ≡ b + period)) is_y comes)
 
 -- After the hours from one class to another, the other comes.
 pub comes_up : (period from to hours : ℕ) → 0 < period → ((from % period + hours ≡ to % period) ⊎ (from % period + hours ≡ to % period + period)) → (from + hours) % period ≡ to % period

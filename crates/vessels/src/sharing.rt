@@ -5,6 +5,15 @@ ghost use Rattle.vessels.specs.Sharing.{Shares};
 
 use super::placed::Placed;
 
+// The class of an hour.
+fn class_of(hour: u16, period: u16) -> u16
+    requires { 0 < period }
+    ensures value { result ≡ class period hour }
+    ensures below { result < period }
+{
+    hour % period
+}
+
 // Hours from one class on until another comes, where the first class follows the last.
 fn hours_between(from: u16, to: u16, period: u16) -> u16
     requires from { from < period }
@@ -32,7 +41,7 @@ pub fn hours_until(from: u16, to: u16, period: u16) -> u16
     if period == 0 {
         return 0;
     }
-    hours_between(from % period, to % period, period)
+    hours_between(class_of(from, period), class_of(to, period), period)
 }
 
 // Two steps share a class exactly if the class in which one of them starts comes up while the other still runs.

@@ -69,6 +69,13 @@ fn planner_for(
     Ok(Planner { checked, chart })
 }
 
+// The planner that was found takes the place of the one that stands.
+fn replace(standing: &mut Planner, planner: Planner)
+    ensures { standing.new ≡ planner }
+{
+    *standing = planner;
+}
+
 impl Planner {
     // Period 24, span 336, no steps, no rules and no vessels.
     pub fn empty() -> Planner
@@ -99,7 +106,7 @@ impl Planner {
             return Err(Refusal::TooShort);
         }
         let asked = asked_for(&self.checked, command)?;
-        *self = planner_for(asked, hours, counted, codes)?;
+        replace(self, planner_for(asked, hours, counted, codes)?);
         Ok(())
     }
 }
